@@ -1,0 +1,1 @@
+// What a placement is. Nothing here runs yet.

@@ -1,0 +1,9 @@
+-- Laws of the tables that every layer above cites. Assumes nothing.
+pub mod Choice
+pub mod Tests
+pub mod Trees
+pub mod Climb
+pub mod Depth
+pub mod Columns
+pub mod Rules
+pub mod Refusals

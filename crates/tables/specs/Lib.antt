@@ -1,0 +1,6 @@
+-- What a reader must believe of the tables, file by file. Assumes nothing.
+pub mod Tree
+pub mod Column
+pub mod Document
+pub mod Pattern
+pub mod Refusal

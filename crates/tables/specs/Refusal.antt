@@ -1,0 +1,35 @@
+-- The refusal numbers, and what it is to refuse by the first check that fails (docs/RULES.md, "Refusals"). Each call's checks stand with that call.
+-- Assumes nothing.
+use Prim.Native.Nat.{ℕ}
+use mathlib.Core.Path.{_≡_}
+use mathlib.Core.Logic.{_⊎_}
+use mathlib.Core.List.{List, [], _∷_}
+use Rattle.tables.specs.declared.Refusal.{Refusal}
+use Rattle.tables.specs.declared.Refusal.the-variants.{Version, Length, BadPattern, BadDocument, Room, Start, OtherLabel, TooLarge, NoLabel}
+
+-- the number of each refusal
+abbrev pub number : Refusal → ℕ
+number Version = 1
+number Length = 2
+number BadPattern = 3
+number BadDocument = 4
+number Room = 5
+number Start = 6
+number OtherLabel = 7
+number TooLarge = 8
+number NoLabel = 9
+
+-- a check of a call: what it asks, and the refusal that it gives where that does not hold
+pub record Check : Type 1 where
+  pub asks : Type 0
+  pub gives : Refusal
+
+-- every check holds: the call answers
+abbrev pub Passes : List Check → Type 0
+Passes [] = Unit {0}
+Passes (c ∷ cs) = c .asks × Passes cs
+
+-- the first check that fails gives the refusal r
+abbrev pub Refuses : List Check → Refusal → Type 0
+Refuses [] r = ⊥
+Refuses (c ∷ cs) r = ((c .asks → ⊥) × (r ≡ c .gives)) ⊎ (c .asks × Refuses cs r)
