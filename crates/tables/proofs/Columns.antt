@@ -1,31 +1,51 @@
--- Laws of columns and of arrays that are zero past their first entries. Assumes nothing.
-use Prim.Native.Nat.{ℕ, zero, suc, _+_, _-_, _≤_, _<_}
-use mathlib.Core.Path.{_≡_, refl, sym, ap, ap₂, _∙_}
+-- Laws of blocks, of columns and of arrays that are zero past their first entries. Assumes nothing.
+use Prim.Native.Nat.{ℕ, zero, suc, _+_, _*_, _-_, _≤_, _<_}
+use mathlib.Core.Path.{_≡_, refl, sym, ap, ap₂, _∙_, subst}
 use mathlib.Core.List.{List, [], _∷_, _++_}
 use native.Mathlib.Omega.{arith}
-use native.Mathlib.Nat.{eq-or-lt-of-le}
+use native.Mathlib.Nat.{zero-mul, suc-mul}
 use native.Mathlib.Decide.{decLt}
 use lib.ListN.{length, getD, drop, replicate, length-append, length-drop, length-replicate, getD-replicate, List·getD-append, List·getD-eq-default}
 use lib.Seq.{getD-append-add, getD-drop, ext-getD}
-use Rattle.tables.specs.Column.{column, padded}
+use Rattle.tables.specs.Column.{blocks, column, padded}
 use Rattle.tables.proofs.Choice.{below-or-at}
 
+blocks-fit : (b : ℕ → List ℕ) (n k : ℕ) → k < n → length (blocks b k) + length (b k) ≤ length (blocks b n)
+unfolding blocks
+blocks-fit b zero k l = absurd (omega arith)
+blocks-fit b (suc n) k l = below-or-at l
+    (λ h. omega (arith, blocks-fit b n k h, length-append (blocks b n) (b n)))
+    (λ e. omega (arith, length-append (blocks b n) (b n), ap (λ x. length (blocks b x)) e, ap (λ x. length (b x)) e))
+
+-- entry r of block k
+pub blocks-at : (b : ℕ → List ℕ) (n k r : ℕ) → k < n → r < length (b k) → getD (blocks b n) (length (blocks b k) + r) 0 ≡ getD (b k) r 0
+unfolding blocks
+blocks-at b zero k r l m = absurd (omega arith)
+blocks-at b (suc n) k r l m = below-or-at l
+    (λ h. List·getD-append (blocks b n) (b n) 0 (length (blocks b k) + r) (omega (arith, blocks-fit b n k h)) ∙ blocks-at b n k r h m)
+    (λ e. subst (λ (x : ℕ). getD (blocks b n ++ b n) (length (blocks b x) + r) 0 ≡ getD (b x) r 0) (sym e) (getD-append-add (blocks b n) (b n) r 0))
+
+-- blocks of one width
+pub blocks-length : (b : ℕ → List ℕ) (w n : ℕ) → ((k : ℕ) → k < n → length (b k) ≡ w) → length (blocks b n) ≡ n * w
+unfolding blocks
+blocks-length b w zero h = sym (zero-mul w)
+blocks-length b w (suc n) h =
+    length-append (blocks b n) (b n) ∙ ap₂ (λ x y. x + y) (blocks-length b w n (λ k l. h k (omega arith))) (h n (omega arith)) ∙ sym (suc-mul n w)
+
+pub blocks-ext : (b c : ℕ → List ℕ) (n : ℕ) → ((k : ℕ) → k < n → b k ≡ c k) → blocks b n ≡ blocks c n
+unfolding blocks
+blocks-ext b c zero h = refl
+blocks-ext b c (suc n) h = ap₂ (λ x y. x ++ y) (blocks-ext b c n (λ k l. h k (omega arith))) (h n (omega arith))
+
 pub column-length : (f : ℕ → ℕ) (n : ℕ) → length (column f n) ≡ n
-unfolding column
-column-length f zero = refl
-column-length f (suc n) = length-append (column f n) (f n ∷ []) ∙ omega (arith, column-length f n)
+column-length f n = blocks-length (λ k. f k ∷ []) 1 n (λ k l. refl) ∙ omega arith
 
 pub column-at : (f : ℕ → ℕ) (n k : ℕ) → k < n → getD (column f n) k 0 ≡ f k
-unfolding column
-column-at f zero k l = absurd (omega arith)
-column-at f (suc n) k l = below-or-at l
-    (λ h. List·getD-append (column f n) (f n ∷ []) 0 k (omega (arith, column-length f n)) ∙ column-at f n k h)
-    (λ e. ap (λ i. getD (column f n ++ (f n ∷ [])) i 0) (omega (arith, column-length f n)) ∙ getD-append-add (column f n) (f n ∷ []) 0 0 ∙ ap f (sym e))
+column-at f n k l =
+    ap (λ i. getD (column f n) i 0) (omega (arith, column-length f k)) ∙ blocks-at (λ k. f k ∷ []) n k 0 l (omega arith)
 
 pub column-ext : (f g : ℕ → ℕ) (n : ℕ) → ((k : ℕ) → k < n → f k ≡ g k) → column f n ≡ column g n
-unfolding column
-column-ext f g zero h = refl
-column-ext f g (suc n) h = ap₂ (λ l x. l ++ (x ∷ [])) (column-ext f g n (λ k l. h k (omega arith))) (h n (omega arith))
+column-ext f g n h = blocks-ext (λ k. f k ∷ []) (λ k. g k ∷ []) n (λ k l. ap (λ x. x ∷ []) (h k l))
 
 -- a list is the column of its entries
 pub column-self : (xs : List ℕ) → column (λ k. getD xs k 0) (length xs) ≡ xs

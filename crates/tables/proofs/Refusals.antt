@@ -1,9 +1,14 @@
 -- A call answers or refuses, never both, and refuses by one number. Assumes nothing.
-use mathlib.Core.Path.{_≡_, sym, _∙_}
+use Prim.Native.Nat.{ℕ}
+use mathlib.Core.Path.{_≡_, refl, sym, ap, _∙_}
 use mathlib.Core.Logic.{_⊎_, inl, inr, ⊎-elim}
 use mathlib.Core.List.{List, [], _∷_}
-use Rattle.tables.specs.Refusal.{Check, Passes, Refuses}
+use Rattle.tables.specs.Refusal.{Check, Passes, Refuses, Decided, CountedBy}
 use Rattle.tables.specs.declared.Refusal.{Refusal}
+use Rattle.tables.specs.declared.Checked.{Checked}
+use Rattle.tables.specs.declared.Checked.the-variants as checked
+use Rattle.tables.specs.declared.Counted.{Counted}
+use Rattle.tables.specs.declared.Counted.the-variants as counted
 
 -- a call that refuses does not answer
 pub refuses-not-passes : (cs : List Check) (r : Refusal) → Refuses cs r → Passes cs → ⊥
@@ -17,3 +22,18 @@ refuses-unique (c ∷ cs) r q h k = ⊎-elim
     (λ w. ⊎-elim (λ x. w .1 ∙ sym (x .1)) (λ x. absurd (w .0 (x .0))) k)
     (λ w. ⊎-elim (λ x. absurd (x .0 (w .0))) (λ x. refuses-unique cs r q (w .1) (x .1)) k)
     h
+
+-- no second answer fits a check
+pub decided-unique : (cs : List Check) (a b : Checked) (X Y X′ Y′ : Type 0) → Decided cs a X Y → Decided cs b X′ Y′ → a ≡ b
+decided-unique cs checked.Right checked.Right X Y X′ Y′ h k = refl
+decided-unique cs checked.Right (checked.Refused q) X Y X′ Y′ h k = absurd (refuses-not-passes cs q (k .0) (h .0))
+decided-unique cs (checked.Refused r) checked.Right X Y X′ Y′ h k = absurd (refuses-not-passes cs r (h .0) (k .0))
+decided-unique cs (checked.Refused r) (checked.Refused q) X Y X′ Y′ h k = ap checked.Refused (refuses-unique cs r q (h .0) (k .0))
+
+-- nor a call that counts, where no second count fits
+pub counted-unique : (cs : List Check) (a b : Counted) (X : ℕ → Type 0) (Y : Type 0) (X′ : ℕ → Type 0) (Y′ : Type 0)
+    → ((c e : ℕ) → X c → X′ e → c ≡ e) → CountedBy cs a X Y → CountedBy cs b X′ Y′ → a ≡ b
+counted-unique cs (counted.Count c) (counted.Count e) X Y X′ Y′ u h k = ap counted.Count (u c e (h .1) (k .1))
+counted-unique cs (counted.Count c) (counted.Refused q) X Y X′ Y′ u h k = absurd (refuses-not-passes cs q (k .0) (h .0))
+counted-unique cs (counted.Refused r) (counted.Count e) X Y X′ Y′ u h k = absurd (refuses-not-passes cs r (h .0) (k .0))
+counted-unique cs (counted.Refused r) (counted.Refused q) X Y X′ Y′ u h k = ap counted.Refused (refuses-unique cs r q (h .0) (k .0))

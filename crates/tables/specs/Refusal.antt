@@ -5,6 +5,10 @@ use mathlib.Core.Path.{_≡_}
 use mathlib.Core.Logic.{_⊎_}
 use mathlib.Core.List.{List, [], _∷_}
 use Rattle.tables.specs.declared.Refusal.{Refusal}
+use Rattle.tables.specs.declared.Checked.{Checked}
+use Rattle.tables.specs.declared.Checked.the-variants as checked
+use Rattle.tables.specs.declared.Counted.{Counted}
+use Rattle.tables.specs.declared.Counted.the-variants as counted
 use Rattle.tables.specs.declared.Refusal.the-variants.{Version, Length, BadPattern, BadDocument, Room, Start, OtherLabel, TooLarge, NoLabel}
 
 -- the number of each refusal
@@ -33,3 +37,13 @@ Passes (c ∷ cs) = c .asks × Passes cs
 abbrev pub Refuses : List Check → Refusal → Type 0
 Refuses [] r = ⊥
 Refuses (c ∷ cs) r = ((c .asks → ⊥) × (r ≡ c .gives)) ⊎ (c .asks × Refuses cs r)
+
+-- a call's answer by its checks: right, with X, where all hold; else the refusal, with Y
+abbrev pub Decided : List Check → Checked → Type 0 → Type 0 → Type 0
+Decided cs checked.Right X Y = Passes cs × X
+Decided cs (checked.Refused r) X Y = Refuses cs r × Y
+
+-- the same for a call that counts: X says what the count is
+abbrev pub CountedBy : List Check → Counted → (ℕ → Type 0) → Type 0 → Type 0
+CountedBy cs (counted.Count c) X Y = Passes cs × X c
+CountedBy cs (counted.Refused r) X Y = Refuses cs r × Y
