@@ -1,1 +1,1 @@
-// What a placement is. Nothing here runs yet.
+// Placements, and the answers that they give (docs/RULES.md, "Placements and answers"): definitions and their laws. Nothing here runs.
