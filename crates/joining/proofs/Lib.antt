@@ -1,0 +1,1 @@
+-- The theory of joining. Assumes nothing.
