@@ -1,5 +1,5 @@
--- The join of a view V and a compensation E (docs/RULES.md, "Join"): V up to and including its output step, then E without its step 0, then the rest of V.
---   renumber    the number that a step of V has in the join
+-- The join of a view U and a compensation E (docs/RULES.md, "Join"): U up to and including its output step, then E without its step 0, then the rest of U.
+--   renumber    the number that a step of U has in the join
 --   joinShape   the joined pattern
 --   joinOf      its table
 --   joinChecks  what joining checks, in order
@@ -17,11 +17,11 @@ use Rattle.tables.specs.declared.Pattern.{Pattern}
 use Rattle.tables.specs.declared.Refusal.the-variants.{BadPattern, Start, OtherLabel, TooLarge}
 use Rattle.joining.specs.declared.JoinAnswer.{JoinAnswer}
 
--- the number of V's step s in the join, where e steps of E stand past V's output step o
+-- the number of U's step s in the join, where e steps of E stand past U's output step o
 unfoldable pub renumber : ℕ → ℕ → ℕ → ℕ
 renumber o e s = cond (ltb o s) (s + e) s
 
--- step u of the join is in V's front, in E's part, or in the rest of V: x, y or z
+-- step u of the join is in U's front, in E's part, or in the rest of U: x, y or z
 unfoldable pub byPart : ℕ → ℕ → ℕ → ℕ → ℕ → ℕ → ℕ
 byPart o e u x y z = cond (ltb o u) (cond (ltb (o + e) u) z y) x
 
@@ -29,34 +29,34 @@ byPart o e u x y z = cond (ltb o u) (cond (ltb (o + e) u) z y) x
 abbrev pub added : Shape → ℕ
 added E = E .tree .size - 1
 
--- the joined pattern: children of E's step 0 hang on V's output step
+-- the joined pattern: children of E's step 0 hang on U's output step
 unfoldable pub joinShape : Shape → Shape → Shape
-joinShape V E = record {
+joinShape U E = record {
   tree = record {
-    size = V .tree .size + added E;
-    parent = λ u. byPart (V .output) (added E) u
-        (V .tree .parent u) (V .output + E .tree .parent (u - V .output)) (renumber (V .output) (added E) (V .tree .parent (u - added E)));
+    size = U .tree .size + added E;
+    parent = λ u. byPart (U .output) (added E) u
+        (U .tree .parent u) (U .output + E .tree .parent (u - U .output)) (renumber (U .output) (added E) (U .tree .parent (u - added E)));
   };
-  label = λ u. byPart (V .output) (added E) u (V .label u) (E .label (u - V .output)) (V .label (u - added E));
-  axis = λ u. byPart (V .output) (added E) u (V .axis u) (E .axis (u - V .output)) (V .axis (u - added E));
-  output = V .output + E .output;
+  label = λ u. byPart (U .output) (added E) u (U .label u) (E .label (u - U .output)) (U .label (u - added E));
+  axis = λ u. byPart (U .output) (added E) u (U .axis u) (E .axis (u - U .output)) (U .axis (u - added E));
+  output = U .output + E .output;
 }
 
 -- its table
 unfoldable pub joinOf : Pattern → Pattern → Pattern
-joinOf V E = patternOf (joinShape (shapeOf V) (shapeOf E))
+joinOf U E = patternOf (joinShape (shapeOf U) (shapeOf E))
 
--- joining V and E: V's rules, E's rules, the axis of E's step 0, the two labels, the size
+-- joining U and E: U's rules, E's rules, the axis of E's step 0, the two labels, the size
 abbrev pub joinChecks : Pattern → Pattern → List Check
-joinChecks V E =
-    record { asks = ValidPattern V; gives = BadPattern } ∷ record { asks = ValidPattern E; gives = BadPattern }
-    ∷ record { asks = shapeOf E .axis 0 ≡ 0; gives = Start } ∷ record { asks = shapeOf V .label (shapeOf V .output) ≡ shapeOf E .label 0; gives = OtherLabel }
-    ∷ record { asks = V .count + added (shapeOf E) ≤ 64; gives = TooLarge } ∷ []
+joinChecks U E =
+    record { asks = ValidPattern U; gives = BadPattern } ∷ record { asks = ValidPattern E; gives = BadPattern }
+    ∷ record { asks = shapeOf E .axis 0 ≡ 0; gives = Start } ∷ record { asks = shapeOf U .label (shapeOf U .output) ≡ shapeOf E .label 0; gives = OtherLabel }
+    ∷ record { asks = U .count + added (shapeOf E) ≤ 64; gives = TooLarge } ∷ []
 
--- E can be joined to V
+-- E can be joined to U
 abbrev pub Joinable : Pattern → Pattern → Type 0
-Joinable V E = Passes (joinChecks V E)
+Joinable U E = Passes (joinChecks U E)
 
 -- joining gives the join, or a refusal with the zero pattern beside it
 abbrev pub Joins : Pattern → Pattern → JoinAnswer → Type 0
-Joins V E r = Decided (joinChecks V E) (r .answer) (r .pattern ≡ joinOf V E) (r .pattern ≡ zeroPattern)
+Joins U E r = Decided (joinChecks U E) (r .answer) (r .pattern ≡ joinOf U E) (r .pattern ≡ zeroPattern)
