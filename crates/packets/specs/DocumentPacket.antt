@@ -53,5 +53,5 @@ documentChecks bs a b =
 abbrev pub ReadsDocument : List ℕ → List ℕ → List ℕ → Counted → List ℕ → List ℕ → Type 0
 ReadsDocument bs parents₀ labels₀ r parents labels =
     CountedBy (documentChecks bs (length parents₀) (length labels₀)) r (λ n.
-        (n ≡ nodesIn bs) × (parents ≡ packetDocument bs .parents ++ drop n parents₀) × (labels ≡ packetDocument bs .labels ++ drop n labels₀))
+    (n ≡ nodesIn bs) × (parents ≡ packetDocument bs .parents ++ drop n parents₀) × (labels ≡ packetDocument bs .labels ++ drop n labels₀))
     ((parents ≡ parents₀) × (labels ≡ labels₀))

@@ -63,7 +63,17 @@ unfoldable pub firstFrom : ℕ → ℕ → (ℕ → Bool) → ℕ
 firstFrom zero i p = i
 firstFrom (suc k) i p = cond (p i) i (firstFrom k (suc i) p)
 
-first-from : (p : ℕ → Bool) (k i j : ℕ) → i ≤ j → j < i + k → T (p j) → T (p (firstFrom k i p)) × (firstFrom k i p ≤ j)
+pub first-from-start : (p : ℕ → Bool) (k i : ℕ) → i ≤ firstFrom k i p
+unfolding firstFrom
+first-from-start p zero i = omega arith
+first-from-start p (suc k) i = go (p i) (first-from-start p k (suc i))
+  where
+    go : (b : Bool) → suc i ≤ firstFrom k (suc i) p → i ≤ cond b i (firstFrom k (suc i) p)
+    go true l = omega arith
+    go false l = omega arith
+
+-- where j passes, the search from i finds one that passes and is no larger
+pub first-from : (p : ℕ → Bool) (k i j : ℕ) → i ≤ j → j < i + k → T (p j) → T (p (firstFrom k i p)) × (firstFrom k i p ≤ j)
 unfolding firstFrom
 first-from p zero i j l m t = absurd (omega arith)
 first-from p (suc k) i j l m t = go (p i) (λ x. x) (λ x. x) (λ d. first-from p k (suc i) j d (omega arith) t)

@@ -7,3 +7,5 @@ pub mod Depth
 pub mod Columns
 pub mod Rules
 pub mod Refusals
+pub mod Agreement
+pub mod Outcomes

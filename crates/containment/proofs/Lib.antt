@@ -1,0 +1,10 @@
+-- The theory of containment. Assumes nothing.
+pub mod Free
+pub mod Nodes
+pub mod Written
+pub mod Complete
+pub mod Shows
+pub mod Maps
+pub mod FreshLabel
+pub mod Contained
+pub mod Deciding

@@ -1,0 +1,4 @@
+-- What a reader must believe of containment, file by file. Assumes nothing.
+pub mod Mapping
+pub mod Witness
+pub mod Containment

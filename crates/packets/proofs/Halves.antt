@@ -1,0 +1,101 @@
+-- Laws of bytes and of the 16-bit numbers that two of them make, and of lists that are a header followed by blocks of four bytes.
+-- Both packets are such lists. Assumes nothing.
+use Prim.Native.Nat.{ℕ, zero, suc, _+_, _*_, _<_}
+use mathlib.Core.Path.{_≡_, sym, ap, ap₂, _∙_}
+use mathlib.Core.List.{List, [], _∷_, _++_, append-nil, append-assoc}
+use native.Mathlib.Omega.{arith}
+use lib.ListN.{length, getD, length-append}
+use lib.Seq.{getD-append-add}
+use Rattle.tables.specs.Column.{blocks, column}
+use Rattle.tables.proofs.Columns.{blocks-at, blocks-length, column-self}
+use Rattle.packets.specs.Bytes.{Bytes, high, low, half}
+
+-- the two bytes of a number make it again
+pub half-of-bytes : (x : ℕ) → high x * 256 + low x ≡ x
+half-of-bytes x = omega arith
+
+-- the two bytes of the number that two bytes make
+pub high-of-half : (a b : ℕ) → b < 256 → high (a * 256 + b) ≡ a
+high-of-half a b h = omega arith
+
+pub low-of-half : (a b : ℕ) → b < 256 → low (a * 256 + b) ≡ b
+low-of-half a b h = omega arith
+
+-- the two bytes of the number at byte o
+pub high-half : (bs : List ℕ) → Bytes bs → (o : ℕ) → high (half bs o) ≡ getD bs o 0
+high-half bs h o = high-of-half (getD bs o 0) (getD bs (o + 1) 0) (h (o + 1))
+
+pub low-half : (bs : List ℕ) → Bytes bs → (o : ℕ) → low (half bs o) ≡ getD bs (o + 1) 0
+low-half bs h o = low-of-half (getD bs o 0) (getD bs (o + 1) 0) (h (o + 1))
+
+-- the bytes of a 16-bit number are bytes
+pub high-byte : (x : ℕ) → x < 65536 → high x < 256
+high-byte x h = omega arith
+
+pub low-byte : (x : ℕ) → low x < 256
+low-byte x = omega arith
+
+-- four bytes are bytes
+pub bytes-four : {a b c d : ℕ} → a < 256 → b < 256 → c < 256 → d < 256 → Bytes (a ∷ b ∷ c ∷ d ∷ [])
+bytes-four a b c d zero = a
+bytes-four a b c d (suc zero) = b
+bytes-four a b c d (suc (suc zero)) = c
+bytes-four a b c d (suc (suc (suc zero))) = d
+bytes-four a b c d (suc (suc (suc (suc k)))) = omega arith
+
+bytes-append : (xs ys : List ℕ) → Bytes xs → Bytes ys → Bytes (xs ++ ys)
+bytes-append [] ys h g k = g k
+bytes-append (x ∷ xs) ys h g zero = h 0
+bytes-append (x ∷ xs) ys h g (suc k) = bytes-append xs ys (λ i. h (suc i)) g k
+
+-- a header of bytes followed by blocks of bytes
+pub bytes-blocks : (hs : List ℕ) (b : ℕ → List ℕ) (n : ℕ) → Bytes hs → ((k : ℕ) → k < n → Bytes (b k)) → Bytes (hs ++ blocks b n)
+unfolding blocks
+bytes-blocks hs b zero h g = rw append-nil h
+bytes-blocks hs b (suc n) h g =
+    rw (← append-assoc) (bytes-append (hs ++ blocks b n) (b n) (bytes-blocks hs b n h (λ k l. g k (omega arith))) (g n (omega arith)))
+
+-- how long a header with n blocks of four is
+pub packet-length : (hs : List ℕ) (b : ℕ → List ℕ) (n : ℕ) → ((k : ℕ) → length (b k) ≡ 4) → length (hs ++ blocks b n) ≡ length hs + 4 * n
+packet-length hs b n w = length-append hs (blocks b n) ∙ omega (arith, blocks-length b 4 n (λ k l. w k))
+
+-- entry r of block k stands 4 * k + r after the header
+pub packet-at : (hs : List ℕ) (b : ℕ → List ℕ) (n k r i : ℕ) → ((k : ℕ) → length (b k) ≡ 4) → k < n → r < 4 → i ≡ length hs + 4 * k + r
+    → getD (hs ++ blocks b n) i 0 ≡ getD (b k) r 0
+packet-at hs b n k r i w l m e =
+    ap (λ (j : ℕ). getD (hs ++ blocks b n) j 0) (omega (arith, blocks-length b 4 k (λ j l. w j)))
+    ∙ getD-append-add hs (blocks b n) (length (blocks b k) + r) 0
+    ∙ blocks-at b n k r l (omega (arith, w k))
+
+-- the 16-bit number at entry r of block k stands there too
+pub packet-half : (hs : List ℕ) (b : ℕ → List ℕ) (n k r o : ℕ) → ((k : ℕ) → length (b k) ≡ 4) → k < n → r < 3 → o ≡ length hs + 4 * k + r
+    → half (hs ++ blocks b n) o ≡ half (b k) r
+packet-half hs b n k r o w l m e =
+    ap₂ (λ x y. x * 256 + y) (packet-at hs b n k r o w l (omega arith) e) (packet-at hs b n k (r + 1) (o + 1) w l (omega arith) (omega arith))
+
+-- the four entries from place o on
+unfoldable pub four : (ℕ → ℕ) → ℕ → List ℕ
+four f o = f o ∷ f (o + 1) ∷ f (o + 2) ∷ f (o + 3) ∷ []
+
+column-step : (f : ℕ → ℕ) (m : ℕ) → column f m ++ four f m ≡ column f (m + 4)
+unfolding blocks four
+column-step f m =
+    let a : m + 1 ≡ suc m = omega arith in
+    let b : m + 2 ≡ suc (suc m) = omega arith in
+    let c : m + 3 ≡ suc (suc (suc m)) = omega arith in
+    let d : m + 4 ≡ suc (suc (suc (suc m))) = omega arith in
+    rw (a, b, c, d) (simp append-assoc)
+
+column-four : (f : ℕ → ℕ) (h n : ℕ) → column f h ++ blocks (λ k. four f (h + 4 * k)) n ≡ column f (h + 4 * n)
+unfolding blocks
+column-four f h zero = append-nil (column f h) ∙ ap (column f) {x = h} {y = h + 4 * 0} (omega arith)
+column-four f h (suc n) =
+    sym (append-assoc (column f h) (blocks (λ k. four f (h + 4 * k)) n) (four f (h + 4 * n)))
+    ∙ ap (λ (l : List ℕ). l ++ four f (h + 4 * n)) (column-four f h n)
+    ∙ column-step f (h + 4 * n)
+    ∙ ap (column f) {x = h + 4 * n + 4} {y = h + 4 * suc n} (omega arith)
+
+-- a list of h + 4 * n entries is its first h, followed by n blocks of four
+pub packet-self : (bs : List ℕ) (h n : ℕ) → length bs ≡ h + 4 * n
+    → column (λ k. getD bs k 0) h ++ blocks (λ k. four (λ j. getD bs j 0) (h + 4 * k)) n ≡ bs
+packet-self bs h n e = column-four (λ k. getD bs k 0) h n ∙ ap (column (λ k. getD bs k 0)) (sym e) ∙ column-self bs
