@@ -59,7 +59,7 @@ module _ (A B : Shape) (va : ValidShape A) (vb : ValidShape B) where
   free-there = tells-free A B (some-free .label) .test (λ w. ⊎-elim
       (λ h. some-free .unused (h .step) (omega (arith, h .here)) (sel-yes (decLt (h .step) (A .tree .size)) _ _ (h .here) ∙ h .is))
       (λ h. some-free .unused (A .tree .size + h .step) (omega (arith, h .here))
-          (sel-no (decLt (A .tree .size + h .step) (A .tree .size)) _ _ (omega arith) ∙ ap (B .label) (omega arith) ∙ h .is))
+      (sel-no (decLt (A .tree .size + h .step) (A .tree .size)) _ _ (omega arith) ∙ ap (B .label) (omega arith) ∙ h .is))
       w)
 
   search : (j : ℕ) → 1 ≤ j → j ≤ 129 → T (isFree A B j) → T (isFree A B (freshLabel A B)) × (freshLabel A B ≤ j)

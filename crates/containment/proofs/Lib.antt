@@ -8,3 +8,4 @@ pub mod Maps
 pub mod FreshLabel
 pub mod Contained
 pub mod Deciding
+pub mod Unique

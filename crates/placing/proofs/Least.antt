@@ -140,7 +140,7 @@ module _ (R : Probe) (P : Task) (First : ℕ → Type 0) (p : Probes R P First) 
   at-child (suc t) q j c h a =
       let l : q < suc t = below-lt (p .ordered) (child c) in
       let e : getD (chosen (P .tree) R (suc t)) (P .tree .parent (suc t)) 0 ≡ best (P .tree) R q
-          = ap (λ o. getD (chosen (P .tree) R (suc t)) o 0) (c .up) ∙ best-before (P .tree) R (suc t) q l (omega (arith, c .here)) in
+      = ap (λ o. getD (chosen (P .tree) R (suc t)) o 0) (c .up) ∙ best-before (P .tree) R (suc t) q l (omega (arith, c .here)) in
       rw (best-is (P .tree) R (suc t) (c .here), e)
       (found (λ i. R .edge (suc t) (best (P .tree) R q) i && canSend (P .tree) R (suc t) i) (λ i. P .edge (suc t) (best (P .tree) R q) i × Able P (suc t) i)
       (λ i. tells-and (p .edge (suc t) (best (P .tree) R q) i) (tells-can R P First p (suc t) i (c .here)))

@@ -9,3 +9,5 @@ pub mod Rules
 pub mod Refusals
 pub mod Agreement
 pub mod Outcomes
+pub mod Bits
+pub mod Marks

@@ -4,3 +4,4 @@ pub mod Column
 pub mod Document
 pub mod Pattern
 pub mod Refusal
+pub mod Bits

@@ -1,0 +1,3 @@
+-- The answers of a pattern by a test that runs, and that no second result fits. Assumes nothing.
+pub mod Tested
+pub mod Unique
