@@ -17,6 +17,10 @@ depthTo T (suc k) (suc i) = suc (depthTo T k (T .parent (suc i)))
 unfoldable pub depth : Tree → ℕ → ℕ
 depth T i = depthTo T i i
 
+pub depth-zero : (T : Tree) → depth T 0 ≡ 0
+unfolding depth depthTo
+depth-zero T = refl
+
 module _ {T : Tree} (v : Ordered T) where
   stable : (k l i : ℕ) → i ≤ k → i ≤ l → i < T .size → depthTo T k i ≡ depthTo T l i
   unfolding depthTo
@@ -40,6 +44,9 @@ module _ {T : Tree} (v : Ordered T) where
   pub depth-below : {a i : ℕ} → Below T a i → depth T a < depth T i
   depth-below {a} {i} (child c) = omega (arith, depth-child a i c)
   depth-below {a} {i} (under {m = m} c b) = omega (arith, depth-child m i c, depth-below b)
+
+  pub depth-le : (a i : ℕ) → From T a i → depth T a ≤ depth T i
+  depth-le a i w = ⊎-elim (λ e. omega (arith, ap (depth T) e)) (λ b. omega (arith, depth-below b)) w
 
   -- of two rows above one, one is above the other
   comparable : {a b x : ℕ} → Below T a x → From T b x → From T a b ⊎ From T b a

@@ -1,0 +1,138 @@
+-- If some compensation serves a query by a view, the cut of the query does, and it is contained in every such compensation. Assumes nothing.
+use Prim.Native.Nat.{ℕ, zero, suc, _+_, _-_, _≤_, _<_}
+use mathlib.Core.Path.{_≡_, refl, sym, ap, _∙_, subst, subst₂}
+use mathlib.Core.Logic.{inl, inr, ⊎-elim}
+use native.Mathlib.Omega.{arith}
+use native.Mathlib.Nat.{eq-zero-or-pos}
+use Rattle.tables.specs.Tree.{Child, child, From}
+use Rattle.tables.specs.Pattern.{Shape, rowsOf}
+use Rattle.tables.proofs.Depth.{depth, depth-zero, depth-child, depth-unique}
+use Rattle.tables.proofs.Trees.{Ordered, below-lt, from-root, from-le}
+use Rattle.placing.proofs.Compose.{compose, identity}
+use Rattle.containment.specs.Mapping.{Maps}
+use Rattle.containment.proofs.Maps.{maps-compose}
+use Rattle.joining.specs.Join.{renumber}
+use Rattle.joining.proofs.Parts.{renumber-low, both, both-view, both-tail}
+use Rattle.joining.proofs.Joined.{Joined, view-child, tail-child, renumber-zero, first-axis}
+use Rattle.joining.proofs.Glue.{split-view, split-tail, glue}
+use Rattle.joining.proofs.Order.{tail-from}
+use Rattle.rewriting.specs.Candidate.{Cut}
+use Rattle.rewriting.proofs.Depths.{from-sends, keeps}
+use Rattle.rewriting.proofs.CutSends.{cut-into, cut-back}
+use Rattle.rewriting.proofs.Cuts.{cut-some}
+
+-- depths in a join
+module _ {U E J : Shape} {e : ℕ} (j : Joined U E J e) (lo : U .output < U .tree .size) (vu : Ordered (U .tree)) (vj : Ordered (J .tree)) where
+  -- a step of the view stands as deep in the join
+  view-depth-to : (k s : ℕ) → s ≤ k → s < U .tree .size → depth (J .tree) (renumber (U .output) e s) ≡ depth (U .tree) s
+  view-depth-to zero s m l =
+      let z : s ≡ 0 = omega arith in
+      ap (λ x. depth (J .tree) (renumber (U .output) e x)) z ∙ ap (depth (J .tree)) (renumber-zero j lo) ∙ depth-zero (J .tree) ∙ sym (depth-zero (U .tree)) ∙ ap (depth (U .tree)) (sym z)
+  view-depth-to (suc k) s m l = ⊎-elim
+      (λ z. view-depth-to k s (omega arith) l)
+      (λ p. let q : ℕ = U .tree .parent s in
+      let c : Child (U .tree) q s = record { late = p; here = l; up = refl } in
+      let g : q < s = below-lt vu (child c) in
+      omega (arith, depth-child vu q s c, depth-child vj (renumber (U .output) e q) (renumber (U .output) e s) (view-child j lo c), view-depth-to k q (omega arith) (omega arith)))
+      (eq-zero-or-pos s)
+
+  -- the joint is above the join's output
+  joint : Ordered (E .tree) → E .output < E .tree .size → From (J .tree) (U .output) (J .output)
+  joint ve le = subst₂ (From (J .tree)) {x = U .output + 0} (omega arith) (sym (j .output)) (tail-from j lo 0 (E .output) (from-root ve (E .output) le))
+
+-- the joint goes to a step of the query's main path that is as deep as the view's output
+pub reaches : {Q U E J : Shape} {e : ℕ} {h g : ℕ → ℕ} → Joined U E J e
+    → Ordered (Q .tree) → Ordered (U .tree) → Ordered (E .tree) → Ordered (J .tree)
+    → Q .output < Q .tree .size → U .output < U .tree .size → E .output < E .tree .size
+    → Maps Q J h → Maps J Q g → (c : ℕ) × From (Q .tree) c (Q .output) × (depth (Q .tree) c ≡ depth (U .tree) (U .output))
+reaches {Q} {U} {E} {J} {e} {h} {g} jj vq vu ve vj lq lu le hm gm = (
+  g (U .output),
+  subst (From (Q .tree) (g (U .output))) (gm .output) (from-sends Q vj vq (gm .sends) (joint jj lu vu vj ve le)),
+  keeps vq vj lq hm gm (U .output) (omega (arith, jj .size)) (joint jj lu vu vj ve le)
+      ∙ ap (depth (J .tree)) (sym (renumber-low (U .output) e (U .output) (omega arith))) ∙ view-depth-to jj lu vu vj (U .output) (U .output) (omega arith) lu,
+)
+
+-- Q is equal to the join J of U with some E, and C is Q's cut at the depth of U's output
+module _ {Q U E J C : Shape} {e c : ℕ} {h g : ℕ → ℕ}
+    (jj : Joined U E J e) (cut : Cut Q c C)
+    (vq : Ordered (Q .tree)) (vu : Ordered (U .tree)) (ve : Ordered (E .tree)) (vj : Ordered (J .tree)) (vc : Ordered (C .tree))
+    (lq : Q .output < Q .tree .size) (lu : U .output < U .tree .size) (le : E .output < E .tree .size) (lc : C .output < C .tree .size)
+    (same : U .label (U .output) ≡ E .label 0) (hm : Maps Q J h) (gm : Maps J Q g)
+    (main : From (Q .tree) c (Q .output)) (deep : depth (Q .tree) c ≡ depth (U .tree) (U .output)) where
+  low : (n : ℕ) → renumber (U .output) n (U .output) ≡ U .output
+  low n = renumber-low (U .output) n (U .output) (omega arith)
+
+  joint-small : U .output < J .tree .size
+  joint-small = omega (arith, jj .size)
+
+  here : c < Q .tree .size
+  here = omega (arith, from-le vq c (Q .output) main)
+
+  -- the joint goes to the cut
+  meets : g (U .output) ≡ c
+  unfolding reaches
+  meets = let r = reaches jj vq vu ve vj lq lu le hm gm in depth-unique vq (g (U .output)) c (Q .output) (r .1) main (r .2 ∙ sym deep)
+
+  -- so the labels agree, and the cut can be joined to the view
+  pub same-label : U .label (U .output) ≡ C .label 0
+  same-label =
+      sym (jj .view-label (U .output) lu) ∙ ap (J .label) (low e) ∙ sym (gm .sends .takes (U .output) joint-small .fits .same)
+      ∙ ap (Q .label) (meets ∙ omega arith) ∙ cut .label 0 (vc .some)
+
+  -- and the cut is contained in every such E
+  pub narrowest : C .axis 0 ≡ 0 → Maps E C (λ t. g (U .output + t) - c)
+  narrowest a =
+      let y : g (U .output + 0) ≡ c = ap g (omega arith) ∙ meets in
+      let n : g (U .output + E .output) ≡ Q .output = ap g (sym (jj .output)) ∙ gm .output in
+      record {
+        sends = cut-back vq cut here ve (split-tail jj lu same (rowsOf Q) (gm .sends)) y;
+        first = λ b. (omega arith, a);
+        output = omega (arith, cut .output);
+      }
+
+  -- the join K of U with the cut
+  module _ {K : Shape} {k : ℕ} (jk : Joined U C K k) where
+    axis-j : J .axis 0 ≡ U .axis 0
+    axis-j = first-axis jj lu
+
+    axis-k : K .axis 0 ≡ U .axis 0
+    axis-k = first-axis jk lu
+
+    pub kq : ℕ → ℕ
+    kq = both (U .output) k (λ s. g (renumber (U .output) e s)) (λ t. c + t)
+
+    -- maps into the query
+    pub join-to-query : Maps K Q kq
+    unfolding kq
+    join-to-query =
+        let z : g (renumber (U .output) e (U .output)) ≡ c + 0 = ap g (low e) ∙ meets ∙ omega arith in
+        record {
+          sends = glue jk lu same-label (rowsOf Q) vc (split-view jj lu same (rowsOf Q) (gm .sends)) (cut-into vq cut here) z;
+          first = λ a. let s = gm .first (axis-j ∙ sym axis-k ∙ a) in
+              (both-view (U .output) k (λ s. g (renumber (U .output) e s)) (λ t. c + t) 0 0 (sym (renumber-zero jk lu)) ∙ ap g (renumber-zero jj lu) ∙ s .0, s .1);
+          output = ap kq (jk .output) ∙ both-tail (U .output) k (λ s. g (renumber (U .output) e s)) (λ t. c + t) z (C .output) (omega (arith, jk .more)) ∙ sym (cut .output);
+        }
+
+    tail-jk : ℕ → ℕ
+    tail-jk t = U .output + (g (U .output + t) - c)
+
+    pub jk-map : ℕ → ℕ
+    jk-map = both (U .output) e (renumber (U .output) k) tail-jk
+
+    -- the join with E maps into it
+    join-to-join : Maps J K jk-map
+    unfolding jk-map tail-jk
+    join-to-join =
+        let y : g (U .output + 0) ≡ c = ap g (omega arith) ∙ meets in
+        let z : renumber (U .output) k (U .output) ≡ U .output + (g (U .output + 0) - c) = omega (arith, low k) in
+        let n : g (U .output + E .output) ≡ Q .output = ap g (sym (jj .output)) ∙ gm .output in
+        record {
+          sends = glue jj lu same (rowsOf K) ve (split-view jk lu same-label (rowsOf K) (identity K))
+              (compose (cut-back vq cut here ve (split-tail jj lu same (rowsOf Q) (gm .sends)) y) (split-tail jk lu same-label (rowsOf K) (identity K))) z;
+          first = λ a. (both-view (U .output) e (renumber (U .output) k) tail-jk 0 0 (sym (renumber-zero jj lu)) ∙ renumber-zero jk lu, axis-k ∙ sym axis-j ∙ a);
+          output = ap jk-map (jj .output) ∙ both-tail (U .output) e (renumber (U .output) k) tail-jk z (E .output) (omega (arith, jj .more)) ∙ omega (arith, n, cut .output, jk .output);
+        }
+
+    -- and the query into it
+    pub query-to-join : Maps Q K (λ t. jk-map (h t))
+    query-to-join = maps-compose hm join-to-join
