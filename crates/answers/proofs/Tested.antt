@@ -5,7 +5,7 @@ use mathlib.Core.Logic.{_↔_}
 use mathlib.Core.Bool.{Bool, _&&_}
 use mathlib.Core.List.{List, [], _∷_}
 use native.Mathlib.Omega.{arith}
-use lib.Dec.{T, eqb}
+use lib.Dec.{ltb, eqb}
 use lib.ListN.{length, getD}
 use Rattle.tables.specs.Bits.{Marks}
 use Rattle.tables.specs.Column.{blocks}
@@ -14,9 +14,9 @@ use Rattle.tables.specs.Pattern.{Shape, ValidShape}
 use Rattle.tables.proofs.Columns.{blocks-length, blocks-at}
 use Rattle.tables.proofs.Marks.{mask, marks-mask}
 use Rattle.tables.proofs.Rules.{shape-ordered, document-ordered}
-use Rattle.tables.proofs.Tests.{Tells, tells-eq, tells-imp, tells-and, tells-iff, imp, some, tells-some}
+use Rattle.tables.proofs.Tests.{Tells, tells-lt, tells-eq, tells-imp, tells-and, tells-iff, imp, every, tells-every, some, tells-some}
 use Rattle.placing.specs.Placement.{Reaches, ReachesFrom}
-use Rattle.placing.specs.Answer.{Begins, Answer, Started, In, Lists}
+use Rattle.placing.specs.Answer.{Begins, Started, In, Lists, StartList}
 use Rattle.placing.proofs.Listing.{passing, lists-passing, lists-iff}
 use Rattle.placing.proofs.Probe.{canSend, canWhole}
 use Rattle.placing.proofs.Sending.{probe, tells-reaches, tells-reaches-from}
@@ -37,6 +37,17 @@ pub tells-in : (xs : List ℕ) (i : ℕ) → Tells (isIn xs i) (In xs i)
 unfolding isIn
 tells-in xs i = tells-iff (tells-some (λ k. tells-eq (getD xs k 0) i) (length xs))
     (λ q. record { place = q .0; early = q .1; is = q .2 }, λ h. (h .place, h .early, h .is))
+
+-- is a list a start list of the document?
+unfoldable pub isStartList : Document → List ℕ → Bool
+isStartList d xs =
+    every (length xs) (λ k. imp (ltb (suc k) (length xs)) (ltb (getD xs k 0) (getD xs (suc k) 0))) && every (length xs) (λ k. ltb (getD xs k 0) (nodeCount d))
+
+pub tells-start-list : (d : Document) (xs : List ℕ) → Tells (isStartList d xs) (StartList d xs)
+unfolding isStartList
+tells-start-list d xs = tells-iff
+    (tells-and (tells-every (λ k. tells-imp (tells-lt (suc k) (length xs)) (tells-lt (getD xs k 0) (getD xs (suc k) 0))) (length xs)) (tells-every (λ k. tells-lt (getD xs k 0) (nodeCount d)) (length xs)))
+    (λ p. record { ascending = λ k l. p .0 k (omega arith) l; nodes = p .1 }, λ s. (λ k h l. s .ascending k l, s .nodes))
 
 -- the answers, ascending
 unfoldable pub answersOf : Shape → Document → (ℕ → Bool) → List ℕ

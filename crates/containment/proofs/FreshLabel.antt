@@ -8,7 +8,7 @@ use native.Mathlib.Decide.{decLt}
 use lib.Dec.{T, eqb}
 use Rattle.tables.specs.Pattern.{Shape, ValidShape}
 use Rattle.tables.proofs.Choice.{sel, sel-yes, sel-no}
-use Rattle.tables.proofs.Tests.{Tells, tells-eq, tells-or, tells-iff, some, tells-some}
+use Rattle.tables.proofs.Tests.{Tells, tells-eq, tells-or, tells-iff, tells-not, some, tells-some}
 use Rattle.placing.proofs.Least.{firstFrom, first-from, first-from-start}
 use Rattle.containment.specs.Witness.{Stands, Fresh}
 use Rattle.containment.proofs.Free.{Free, free}
@@ -24,10 +24,6 @@ tells-stands A l = tells-iff (tells-some (λ s. tells-eq (A .label s) l) (A .tre
 
 unfoldable pub isFree : Shape → Shape → ℕ → Bool
 isFree A B l = not (standsIn A l || standsIn B l)
-
-tells-not : {b : Bool} {X : Type 0} → Tells b X → Tells (not b) (X → ⊥)
-tells-not {b = true} h = record { says = λ t. absurd t; test = λ f. f (h .says tt) }
-tells-not {b = false} h = record { says = λ t x. h .test x; test = λ f. tt }
 
 tells-free : (A B : Shape) (l : ℕ) → Tells (isFree A B l) ((Stands A l ⊎ Stands B l) → ⊥)
 unfolding isFree

@@ -6,3 +6,4 @@ pub mod Depths
 pub mod Serving
 pub mod Rewritten
 pub mod Unique
+pub mod Deciding

@@ -4,7 +4,7 @@ use mathlib.Core.Path.{_≡_, refl, sym, ap, _∙_}
 use mathlib.Core.Logic.{_⊎_, inl, inr}
 use mathlib.Core.Bool.{Bool, _&&_, _||_}
 use native.Mathlib.Omega.{arith}
-use lib.Dec.{T, ltb, eqb}
+use lib.Dec.{T, ltb, eqb, eqb→eq}
 use lib.ListN.{length, getD}
 use Rattle.tables.specs.Tree.{Tree, Child, IsLabel, Hangs}
 use Rattle.tables.specs.Column.{column, padded}
@@ -13,7 +13,7 @@ use Rattle.tables.specs.Pattern.{Shape, shapeOf, tableOf, patternOf, Ste
 use Rattle.tables.specs.declared.Pattern.{Pattern}
 use Rattle.tables.proofs.Trees.{Ordered}
 use Rattle.tables.proofs.Columns.{padded-at, padded-ext}
-use Rattle.tables.proofs.Tests.{Tells, tells-lt, tells-eq, tells-and, tells-or, tells-iff, tells-self, every, tells-every}
+use Rattle.tables.proofs.Tests.{Tells, tells-lt, tells-eq, tells-and, tells-or, tells-iff, tells-self, every, tells-every, and-both, sameList, same-list}
 use Rattle.tables.proofs.Climb.{hangsRight, hangs-sound, hangs-complete}
 
 pub shape-ordered : {A : Shape} → ValidShape A → Ordered (A .tree)
@@ -133,3 +133,34 @@ tells-document d =
       λ p. record { some = p .0; few = omega (arith, p .1 .0); equal = p .1 .1 .0; nodes = λ i l. node-sound d i (p .1 .1 .1 i l) },
       λ v. (v .some, (omega (arith, v .few), (v .equal, λ i l. node-complete d (document-ordered v) i (v .nodes i l)))),
     )
+
+-- patterns with the same parts are one
+unfoldable pub samePattern : Pattern → Pattern → Bool
+samePattern p q =
+    eqb (p .count) (q .count) && (eqb (p .output .0) (q .output .0) && (sameList (p .parent) (q .parent) && (sameList (p .axis) (q .axis) && sameList (p .label) (q .label))))
+
+pub same-pattern : (p q : Pattern) → T (samePattern p q) → p ≡ q
+unfolding samePattern tableOf
+same-pattern p q t =
+    let a = and-both (eqb (p .count) (q .count)) _ t in
+    let b = and-both (eqb (p .output .0) (q .output .0)) _ (a .1) in
+    let c = and-both (sameList (p .parent) (q .parent)) _ (b .1) in
+    let d = and-both (sameList (p .axis) (q .axis)) _ (c .1) in
+    let n : p .count ≡ q .count = eqb→eq (p .count) (q .count) (a .0) in
+    let o : p .output .0 ≡ q .output .0 = eqb→eq (p .output .0) (q .output .0) (b .0) in
+    let ps : p .parent ≡ q .parent = same-list (p .parent) (q .parent) (c .0) in
+    let xs : p .axis ≡ q .axis = same-list (p .axis) (q .axis) (d .0) in
+    let ls : p .label ≡ q .label = same-list (p .label) (q .label) (d .1) in
+    λ i. tableOf (n i) (o i) (ps i) (xs i) (ls i)
+
+-- documents with the same lists are one
+unfoldable pub sameDocument : Document → Document → Bool
+sameDocument d e = sameList (d .parents) (e .parents) && sameList (d .labels) (e .labels)
+
+pub same-document : (d e : Document) → T (sameDocument d e) → d ≡ e
+unfolding sameDocument
+same-document d e t =
+    let p = and-both (sameList (d .parents) (e .parents)) _ t in
+    let ps : d .parents ≡ e .parents = same-list (d .parents) (e .parents) (p .0) in
+    let ls : d .labels ≡ e .labels = same-list (d .labels) (e .labels) (p .1) in
+    λ i. record { parents = ps i; labels = ls i }

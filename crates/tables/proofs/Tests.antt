@@ -1,8 +1,9 @@
 -- Tests that tell: a Boolean that is true exactly where a statement holds. Assumes nothing.
 use Prim.Native.Nat.{ℕ, zero, suc, _+_, _-_, _≤_, _<_}
-use mathlib.Core.Path.{_≡_, refl, sym, ap, _∙_, subst}
+use mathlib.Core.Path.{_≡_, refl, sym, ap₂, subst}
 use mathlib.Core.Logic.{_⊎_, inl, inr, ⊎-elim, _↔_}
 use mathlib.Core.Bool.{Bool, true, false, not, _&&_, _||_}
+use mathlib.Core.List.{List, [], _∷_}
 use native.Mathlib.Omega.{arith}
 use lib.Dec.{T, ltb, eqb, ltb→lt, lt→ltb, eqb→eq, eqb-refl}
 use Rattle.tables.proofs.Choice.{below-or-at}
@@ -62,3 +63,26 @@ tells-some {p} {P} h (suc n) = tells-iff (tells-or (h n) (tells-some h n)) (
   λ q. ⊎-elim (λ x. (n, omega arith, x)) (λ r. (r .0, omega (arith, r .1), r .2)) q,
   λ q. below-or-at (q .1) (λ l. inr (q .0, l, q .2)) (λ e. inl (subst P e (q .2))),
 )
+
+pub tells-not : {b : Bool} {X : Type 0} → Tells b X → Tells (not b) (X → ⊥)
+tells-not {b = true} h = record { says = λ t. absurd t; test = λ f. f (h .says tt) }
+tells-not {b = false} h = record { says = λ t x. h .test x; test = λ f. tt }
+
+-- both parts of a test that passes
+pub and-both : (a b : Bool) → T (a && b) → T a × T b
+and-both true b t = (tt, t)
+and-both false b t = absurd t
+
+-- do two lists have the same entries?
+unfoldable pub sameList : List ℕ → List ℕ → Bool
+sameList [] [] = true
+sameList [] (y ∷ ys) = false
+sameList (x ∷ xs) [] = false
+sameList (x ∷ xs) (y ∷ ys) = eqb x y && sameList xs ys
+
+pub same-list : (xs ys : List ℕ) → T (sameList xs ys) → xs ≡ ys
+unfolding sameList
+same-list [] [] t = refl
+same-list [] (y ∷ ys) t = absurd t
+same-list (x ∷ xs) [] t = absurd t
+same-list (x ∷ xs) (y ∷ ys) t = let p = and-both (eqb x y) (sameList xs ys) t in ap₂ (λ a l. a ∷ l) (eqb→eq x y (p .0)) (same-list xs ys (p .1))

@@ -1,0 +1,40 @@
+-- Cases 1 to 11 of flight line seven hold, in the terms of the definitions: the whole table is proved by one computation. Assumes nothing.
+use Prim.Native.Nat.{ℕ}
+use lib.Dec.{T}
+use Rattle.tables.specs.Column.{blocks}
+use Rattle.tables.specs.Document.{ValidDocument}
+use Rattle.tables.specs.Pattern.{tableOf, patternOf}
+use Rattle.tables.proofs.Climb.{isChild, climbs, isBelow, isFrom, hangsRight}
+use Rattle.tables.proofs.Marks.{mask}
+use Rattle.tables.proofs.Rules.{isLabel, stepRight, isPattern, nodeRight, isDocument, tells-document, samePattern, sameDocument}
+use Rattle.tables.proofs.Tests.{every, some, sameList}
+use Rattle.packets.specs.PatternPacket.{stepBytes, patternPacket, packetShape}
+use Rattle.placing.proofs.Least.{firstFrom, pick, chosen, best}
+use Rattle.placing.proofs.Listing.{passing}
+use Rattle.placing.proofs.Probe.{can, canSend, wholeTo, canWhole}
+use Rattle.placing.proofs.Sending.{labelFits, takes}
+use Rattle.answers.proofs.Tested.{begins, isIn, isStartList, answersOf, entriesOf, workingOf}
+use Rattle.containment.specs.Witness.{descendants, ownNode, hook, parentsFor, labelsFor, witnessOf}
+use Rattle.containment.proofs.Deciding.{mapsInto, leastMapping}
+use Rattle.containment.proofs.FreshLabel.{standsIn, isFree, freshLabel}
+use Rattle.joining.specs.Join.{renumber, byPart, joinShape, joinOf}
+use Rattle.rewriting.specs.Candidate.{pathTo, mainPath, cutStep}
+use Rattle.rewriting.proofs.Cuts.{howMany, cutShape}
+use Rattle.rewriting.proofs.Deciding.{candidateOf, hasCandidate, joinEqual, rewritable}
+use Rattle.flightline.specs.Fact.{pattern, AllHold}
+use Rattle.flightline.specs.Table.{line, view, posed, controlled, topStrip, nestedStrips, framePosed, linePoses, lineStrips, stripPoses, twoFrames, oneFrame, viewWitness, cases}
+use Rattle.flightline.proofs.Checking.{test, testAll, test-all}
+
+-- the flight line obeys the rules
+pub line-valid : ValidDocument line
+unfolding line isDocument nodeRight isLabel hangsRight isFrom isBelow climbs isChild every
+line-valid = tells-document line .says tt
+
+-- the table passes
+cases-pass : T (testAll line cases)
+unfolding cases line view posed controlled topStrip nestedStrips framePosed linePoses lineStrips stripPoses twoFrames oneFrame viewWitness pattern patternOf tableOf blocks test testAll isPattern stepRight isLabel hangsRight isFrom isBelow climbs isChild every some sameList samePattern sameDocument stepBytes patternPacket packetShape firstFrom pick chosen best passing can canSend wholeTo canWhole labelFits takes begins isIn isStartList answersOf entriesOf workingOf mask descendants ownNode hook parentsFor labelsFor witnessOf mapsInto leastMapping standsIn isFree freshLabel renumber byPart joinShape joinOf pathTo mainPath cutStep howMany cutShape candidateOf hasCandidate joinEqual rewritable
+cases-pass = tt
+
+-- the table holds
+pub cases-hold : AllHold line cases
+cases-hold = test-all line line-valid cases cases-pass
