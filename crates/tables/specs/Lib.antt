@@ -5,3 +5,4 @@ pub mod Document
 pub mod Pattern
 pub mod Refusal
 pub mod Bits
+pub mod Checks
