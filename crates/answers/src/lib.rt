@@ -1,1 +1,2 @@
 // The answers of a pattern in a document (docs/RULES.md, "Answers").
+mod plan;
