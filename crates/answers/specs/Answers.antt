@@ -1,4 +1,11 @@
--- What the Answers call, in both forms, checks, answers and leaves in the two lists (docs/RULES.md, "Answers"). Assumes nothing.
+-- What the Answers call, in both forms, checks, answers and leaves in the two lists (docs/RULES.md, "Answers").
+--   Found          what a call that answers leaves
+--   HasRoom        both lists are long enough
+--   answerChecks   what the call checks, in order
+--   startedChecks  what the started form checks, in order
+--   FindsAnswers   what the call answers
+--   FindsStarted   what the started form answers
+-- Assumes nothing.
 use Prim.Native.Nat.{ℕ, _*_, _≤_}
 use mathlib.Core.Path.{_≡_}
 use mathlib.Core.List.{List, [], _∷_, _++_}
@@ -8,7 +15,6 @@ use Rattle.tables.specs.Pattern.{Shape, shapeOf, ValidPattern}
 use Rattle.tables.specs.Refusal.{Check, CountedBy}
 use Rattle.tables.specs.declared.Pattern.{Pattern}
 use Rattle.tables.specs.declared.Counted.{Counted}
-use Rattle.tables.specs.declared.Refusal.the-variants.{BadPattern, BadDocument, Start, Room}
 use Rattle.placing.specs.Answer.{Begins, Started, In, Lists, StartList}
 use Rattle.answers.specs.Working.{Working}
 
@@ -27,13 +33,13 @@ HasRoom d a w = (nodeCount d ≤ a) × (2 * nodeCount d ≤ w)
 -- answers of p in d, with lists of a and w entries lent: the pattern's rules, the document's, the room
 abbrev pub answerChecks : Pattern → Document → ℕ → ℕ → List Check
 answerChecks p d a w =
-    record { asks = ValidPattern p; gives = BadPattern } ∷ record { asks = ValidDocument d; gives = BadDocument } ∷ record { asks = HasRoom d a w; gives = Room } ∷ []
+    record { asks = ValidPattern p; gives = 3 } ∷ record { asks = ValidDocument d; gives = 4 } ∷ record { asks = HasRoom d a w; gives = 5 } ∷ []
 
 -- the started form checks the start before the room: step 0 has axis child, and the start list is right
 abbrev pub startedChecks : Pattern → Document → List ℕ → ℕ → ℕ → List Check
 startedChecks p d starts a w =
-    record { asks = ValidPattern p; gives = BadPattern } ∷ record { asks = ValidDocument d; gives = BadDocument }
-    ∷ record { asks = (shapeOf p .axis 0 ≡ 0) × StartList d starts; gives = Start } ∷ record { asks = HasRoom d a w; gives = Room } ∷ []
+    record { asks = ValidPattern p; gives = 3 } ∷ record { asks = ValidDocument d; gives = 4 }
+    ∷ record { asks = (shapeOf p .axis 0 ≡ 0) × StartList d starts; gives = 6 } ∷ record { asks = HasRoom d a w; gives = 5 } ∷ []
 
 -- what the call answers: a count with both lists as `Found` says, or a refusal with both lists as they were
 abbrev pub FindsAnswers : Pattern → Document → List ℕ → List ℕ → Counted → List ℕ → List ℕ → Type 0

@@ -2,3 +2,4 @@
 pub mod Working
 pub mod Answers
 pub mod Plan
+pub mod Passes

@@ -1,2 +1,1 @@
 // The answers of a pattern in a document (docs/RULES.md, "Answers").
-mod plan;

@@ -12,7 +12,7 @@ use Rattle.tables.specs.declared.Refusal.{Refusal}
 use Rattle.tables.proofs.Columns.{padded-ext}
 use Rattle.tables.proofs.Refusals.{refuses-not-passes, refuses-unique}
 use Rattle.containment.specs.Witness.{witnessOf}
-use Rattle.containment.specs.Containment.{stepNo, mappingArray, containmentChecks, Within, ApartBy, AnswersContainment, Contains}
+use Rattle.containment.specs.Containment.{stepNo, mappingArray, containmentChecks, Within, ApartBy, AnswersContainment, DecidesContainment}
 use Rattle.containment.specs.declared.Containment.{Containment}
 use Rattle.containment.specs.declared.Containment.the-variants as containment
 use Rattle.containment.specs.declared.ContainmentAnswer.{ContainmentAnswer}
@@ -55,9 +55,9 @@ module _ (A B : Pattern) (parents₀ labels₀ parents labels parents′ labels�
       (ap containment.Refused (refuses-unique (containmentChecks A B (length parents₀) (length labels₀)) r q (h .0) (k .0)), h .1 ∙ sym (k .1), h .2 ∙ sym (k .2), h .3 ∙ sym (k .3))
 
 -- two answers to one call are one, and so are the lists that they leave
-pub contains-unique : (A B : Pattern) (parents₀ labels₀ : List ℕ) (r q : ContainmentAnswer) (parents labels parents′ labels′ : List ℕ)
-    → Contains A B parents₀ labels₀ r parents labels → Contains A B parents₀ labels₀ q parents′ labels′ → (r ≡ q) × (parents ≡ parents′) × (labels ≡ labels′)
+pub containment-unique : (A B : Pattern) (parents₀ labels₀ : List ℕ) (r q : ContainmentAnswer) (parents labels parents′ labels′ : List ℕ)
+    → DecidesContainment A B parents₀ labels₀ r parents labels → DecidesContainment A B parents₀ labels₀ q parents′ labels′ → (r ≡ q) × (parents ≡ parents′) × (labels ≡ labels′)
 unfolding Same
-contains-unique A B parents₀ labels₀ r q parents labels parents′ labels′ h k =
+containment-unique A B parents₀ labels₀ r q parents labels parents′ labels′ h k =
     let s = answers-unique A B parents₀ labels₀ parents labels parents′ labels′ (r .answer) (q .answer) (r .mapping) (q .mapping) h k in
     (ap₂ (λ (a : Containment) (m : List StepNo). record { answer = a; mapping = m }) (s .0) (s .1), s .2, s .3)

@@ -1,4 +1,11 @@
--- What the containment call checks, answers and leaves in the two lists (docs/RULES.md, "Containment"). Assumes nothing.
+-- What the containment call checks, answers and leaves in the two lists (docs/RULES.md, "Containment").
+--   stepNo, mappingArray   step numbers of the pattern kind, and a mapping as an array
+--   containmentChecks      what the call checks, in order
+--   Within                 what a contained answer says
+--   ApartBy                what an apart answer says, and leaves
+--   AnswersContainment     the answer by its cases
+--   DecidesContainment     what the call answers
+-- Assumes nothing.
 use Prim.Native.Nat.{ℕ, _≤_}
 use mathlib.Core.Path.{_≡_}
 use mathlib.Core.List.{List, [], _∷_, _++_, map}
@@ -8,7 +15,6 @@ use Rattle.tables.specs.Pattern.{shapeOf, ValidPattern}
 use Rattle.tables.specs.Refusal.{Check, Passes, Refuses}
 use Rattle.tables.specs.declared.Pattern.{Pattern}
 use Rattle.tables.specs.declared.StepNo.{StepNo}
-use Rattle.tables.specs.declared.Refusal.the-variants.{BadPattern, NoLabel, Room}
 use Rattle.containment.specs.Mapping.{LeastMap, Contained}
 use Rattle.containment.specs.Witness.{Fresh, witnessSize, witnessOf, answerNode}
 use Rattle.containment.specs.declared.Containment.{Containment}
@@ -26,9 +32,9 @@ mappingArray m n = map stepNo (padded m n)
 -- containment of A in B, with lists of a and b entries lent: A's rules, B's rules, a label left for the witness, the room for it
 abbrev pub containmentChecks : Pattern → Pattern → ℕ → ℕ → List Check
 containmentChecks A B a b =
-    record { asks = ValidPattern A; gives = BadPattern } ∷ record { asks = ValidPattern B; gives = BadPattern }
-    ∷ record { asks = (l : ℕ) × Fresh (shapeOf A) (shapeOf B) l; gives = NoLabel }
-    ∷ record { asks = (witnessSize (shapeOf A) ≤ a) × (witnessSize (shapeOf A) ≤ b); gives = Room } ∷ []
+    record { asks = ValidPattern A; gives = 3 } ∷ record { asks = ValidPattern B; gives = 3 }
+    ∷ record { asks = (l : ℕ) × Fresh (shapeOf A) (shapeOf B) l; gives = 9 }
+    ∷ record { asks = (witnessSize (shapeOf A) ≤ a) × (witnessSize (shapeOf A) ≤ b); gives = 5 } ∷ []
 
 -- A is contained in B, and the mapping handed over is the smallest of B into A
 pub record Within (A B : Pattern) (mapping : List StepNo) : Type 0 where
@@ -58,5 +64,5 @@ AnswersContainment A B parents₀ labels₀ (containment.Refused r) mapping pare
     Refuses (containmentChecks A B (length parents₀) (length labels₀)) r × (mapping ≡ mappingArray (λ t. 0) 0) × (parents ≡ parents₀) × (labels ≡ labels₀)
 
 -- what the call answers
-abbrev pub Contains : Pattern → Pattern → List ℕ → List ℕ → ContainmentAnswer → List ℕ → List ℕ → Type 0
-Contains A B parents₀ labels₀ r parents labels = AnswersContainment A B parents₀ labels₀ (r .answer) (r .mapping) parents labels
+abbrev pub DecidesContainment : Pattern → Pattern → List ℕ → List ℕ → ContainmentAnswer → List ℕ → List ℕ → Type 0
+DecidesContainment A B parents₀ labels₀ r parents labels = AnswersContainment A B parents₀ labels₀ (r .answer) (r .mapping) parents labels

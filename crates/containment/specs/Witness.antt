@@ -4,6 +4,10 @@
 --   descendants   how many of the first steps have axis descendant
 --   ownNode       the node that the witness writes for a step
 --   witnessSize   how many nodes the witness has
+--   hook          the parent of the first node written for a step
+--   byAxis        a choice by an axis
+--   parentsFor    the parents written for a step
+--   labelsFor     the labels written for a step
 --   witnessOf     the witness
 --   answerNode    its answer node
 -- Assumes nothing.
@@ -29,7 +33,7 @@ pub record Fresh (A B : Shape) (l : ℕ) : Type 0 where
   pub not-second : Stands B l → ⊥
   pub least : (k : ℕ) → 1 ≤ k → k < l → Stands A k ⊎ Stands B k
 
--- how many of the first k steps of A have axis descendant
+-- how many of the first k steps of A have axis descendant, where every axis is 0 or 1
 unfoldable pub descendants : Shape → ℕ → ℕ
 descendants A zero = 0
 descendants A (suc k) = descendants A k + A .axis k

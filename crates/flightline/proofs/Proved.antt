@@ -25,8 +25,7 @@ use Rattle.flightline.specs.Fact.{pattern, AllHold}
 use Rattle.flightline.specs.Table.{line, view, posed, controlled, topStrip, nestedStrips, framePosed, linePoses, lineStrips, stripPoses, twoFrames, oneFrame, viewWitness, cases}
 use Rattle.flightline.proofs.Checking.{test, testAll, test-all}
 
--- the flight line obeys the rules
-pub line-valid : ValidDocument line
+line-valid : ValidDocument line
 unfolding line isDocument nodeRight isLabel hangsRight isFrom isBelow climbs isChild every
 line-valid = tells-document line .says tt
 
@@ -35,6 +34,6 @@ cases-pass : T (testAll line cases)
 unfolding cases line view posed controlled topStrip nestedStrips framePosed linePoses lineStrips stripPoses twoFrames oneFrame viewWitness pattern patternOf tableOf blocks test testAll isPattern stepRight isLabel hangsRight isFrom isBelow climbs isChild every some sameList samePattern sameDocument stepBytes patternPacket packetShape firstFrom pick chosen best passing can canSend wholeTo canWhole labelFits takes begins isIn isStartList answersOf entriesOf workingOf mask descendants ownNode hook parentsFor labelsFor witnessOf mapsInto leastMapping standsIn isFree freshLabel renumber byPart joinShape joinOf pathTo mainPath cutStep howMany cutShape candidateOf hasCandidate joinEqual rewritable
 cases-pass = tt
 
--- the table holds
-pub cases-hold : AllHold line cases
-cases-hold = test-all line line-valid cases cases-pass
+-- the flight line obeys the rules, and the table holds
+pub cases-hold : ValidDocument line × AllHold line cases
+cases-hold = (line-valid, test-all line line-valid cases cases-pass)

@@ -1,4 +1,4 @@
--- Flight line seven: the document, the patterns, and the table of cases 1 to 11. Labels: 1 line, 2 strip, 3 frame, 4 pose, 5 control. Assumes nothing.
+-- Flight line seven (docs/RULES.md, "Flight line seven"): the document, the patterns, and the table of cases 1 to 11, with the slip of a cut at the first label. Labels: 1 line, 2 strip, 3 frame, 4 pose, 5 control. Assumes nothing.
 use Prim.Native.Nat.{ℕ}
 use mathlib.Core.List.{List, [], _∷_}
 use Rattle.tables.specs.Document.{Document}
@@ -21,10 +21,11 @@ posed = pattern (255 ∷ 0 ∷ 1 ∷ []) (1 ∷ 1 ∷ 0 ∷ []) (2 ∷ 3 ∷ 4 �
 unfoldable pub controlled : Pattern
 controlled = pattern (255 ∷ 0 ∷ 0 ∷ []) (1 ∷ 0 ∷ 1 ∷ []) (2 ∷ 5 ∷ 3 ∷ []) 2
 
--- /strip, and //strip//strip
+-- /strip; as a compensation, strip
 unfoldable pub topStrip : Pattern
 topStrip = pattern (255 ∷ []) (0 ∷ []) (2 ∷ []) 0
 
+-- //strip//strip
 unfoldable pub nestedStrips : Pattern
 nestedStrips = pattern (255 ∷ 0 ∷ []) (1 ∷ 1 ∷ []) (2 ∷ 2 ∷ []) 1
 
@@ -32,20 +33,23 @@ nestedStrips = pattern (255 ∷ 0 ∷ []) (1 ∷ 1 ∷ []) (2 ∷ 2 ∷ []) 1
 unfoldable pub framePosed : Pattern
 framePosed = pattern (255 ∷ 0 ∷ []) (0 ∷ 0 ∷ []) (3 ∷ 4 ∷ []) 0
 
--- /line[.//pose]/strip/frame/pose, /line/strip, and strip/frame/pose
+-- /line[.//pose]/strip/frame/pose
 unfoldable pub linePoses : Pattern
 linePoses = pattern (255 ∷ 0 ∷ 0 ∷ 2 ∷ 3 ∷ []) (0 ∷ 1 ∷ 0 ∷ 0 ∷ 0 ∷ []) (1 ∷ 4 ∷ 2 ∷ 3 ∷ 4 ∷ []) 4
 
+-- /line/strip
 unfoldable pub lineStrips : Pattern
 lineStrips = pattern (255 ∷ 0 ∷ []) (0 ∷ 0 ∷ []) (1 ∷ 2 ∷ []) 1
 
+-- strip/frame/pose
 unfoldable pub stripPoses : Pattern
 stripPoses = pattern (255 ∷ 0 ∷ 1 ∷ []) (0 ∷ 0 ∷ 0 ∷ []) (2 ∷ 3 ∷ 4 ∷ []) 2
 
--- /strip[frame][frame], and /strip[frame]
+-- /strip[frame][frame]
 unfoldable pub twoFrames : Pattern
 twoFrames = pattern (255 ∷ 0 ∷ 0 ∷ []) (0 ∷ 0 ∷ 0 ∷ []) (2 ∷ 3 ∷ 3 ∷ []) 0
 
+-- /strip[frame]
 unfoldable pub oneFrame : Pattern
 oneFrame = pattern (255 ∷ 0 ∷ []) (0 ∷ 0 ∷ []) (2 ∷ 3 ∷ []) 0
 
@@ -53,7 +57,7 @@ oneFrame = pattern (255 ∷ 0 ∷ []) (0 ∷ 0 ∷ []) (2 ∷ 3 ∷ []) 0
 unfoldable pub viewWitness : Document
 viewWitness = record { parents = 65535 ∷ 0 ∷ 1 ∷ 2 ∷ []; labels = 1 ∷ 2 ∷ 1 ∷ 3 ∷ [] }
 
--- cases 1 to 11
+-- cases 1 to 11, and one more
 unfoldable pub cases : List Fact
 cases =
     -- 1
@@ -77,4 +81,6 @@ cases =
     -- 10
     ∷ handed linePoses lineStrips stripPoses
     -- 11
-    ∷ equal twoFrames oneFrame ∷ []
+    ∷ equal twoFrames oneFrame
+    -- the cut of //strip//strip by itself is its second step
+    ∷ handed nestedStrips nestedStrips topStrip ∷ []

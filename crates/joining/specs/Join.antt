@@ -1,5 +1,7 @@
 -- The join of a view U and a compensation E (docs/RULES.md, "Join"): U up to and including its output step, then E without its step 0, then the rest of U.
 --   renumber    the number that a step of U has in the join
+--   byPart      a choice by the part of the join that a step is in
+--   added       how many steps of E the join takes
 --   joinShape   the joined pattern
 --   joinOf      its table
 --   joinChecks  what joining checks, in order
@@ -14,7 +16,6 @@ use lib.Dec.{ltb}
 use Rattle.tables.specs.Pattern.{Shape, shapeOf, patternOf, zeroPattern, ValidPattern}
 use Rattle.tables.specs.Refusal.{Check, Passes, Decided}
 use Rattle.tables.specs.declared.Pattern.{Pattern}
-use Rattle.tables.specs.declared.Refusal.the-variants.{BadPattern, Start, OtherLabel, TooLarge}
 use Rattle.joining.specs.declared.JoinAnswer.{JoinAnswer}
 
 -- the number of U's step s in the join, where e steps of E stand past U's output step o
@@ -49,9 +50,9 @@ joinOf U E = patternOf (joinShape (shapeOf U) (shapeOf E))
 -- joining U and E: U's rules, E's rules, the axis of E's step 0, the two labels, the size
 abbrev pub joinChecks : Pattern → Pattern → List Check
 joinChecks U E =
-    record { asks = ValidPattern U; gives = BadPattern } ∷ record { asks = ValidPattern E; gives = BadPattern }
-    ∷ record { asks = shapeOf E .axis 0 ≡ 0; gives = Start } ∷ record { asks = shapeOf U .label (shapeOf U .output) ≡ shapeOf E .label 0; gives = OtherLabel }
-    ∷ record { asks = U .count + added (shapeOf E) ≤ 64; gives = TooLarge } ∷ []
+    record { asks = ValidPattern U; gives = 3 } ∷ record { asks = ValidPattern E; gives = 3 }
+    ∷ record { asks = shapeOf E .axis 0 ≡ 0; gives = 6 } ∷ record { asks = shapeOf U .label (shapeOf U .output) ≡ shapeOf E .label 0; gives = 7 }
+    ∷ record { asks = U .count + added (shapeOf E) ≤ 64; gives = 8 } ∷ []
 
 -- E can be joined to U
 abbrev pub Joinable : Pattern → Pattern → Type 0

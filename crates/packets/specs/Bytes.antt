@@ -7,10 +7,11 @@ use lib.ListN.{getD}
 abbrev pub Bytes : List ℕ → Type 0
 Bytes bs = (k : ℕ) → getD bs k 0 < 256
 
--- the two bytes of a 16-bit number
+-- the high byte of a 16-bit number
 abbrev pub high : ℕ → ℕ
 high x = x / 256
 
+-- the low byte
 abbrev pub low : ℕ → ℕ
 low x = x % 256
 

@@ -1,6 +1,9 @@
 -- Document packets: their bytes, what they are read as, and the call that reads one (docs/RULES.md, "Document packets").
+--   nodeBytes       the bytes of a node
 --   documentPacket  the bytes of a document
+--   nodesIn         how many nodes a packet's length field stands for
 --   packetDocument  the document that bytes are read as
+--   DocumentSized   the length field is right
 --   documentChecks  what reading checks, in order
 --   ReadsDocument   what reading answers and leaves in the two lists
 -- Assumes nothing.
@@ -12,7 +15,6 @@ use Rattle.tables.specs.Column.{blocks, column}
 use Rattle.tables.specs.Document.{Document, nodeCount, ValidDocument}
 use Rattle.tables.specs.Refusal.{Check, CountedBy}
 use Rattle.tables.specs.declared.Counted.{Counted}
-use Rattle.tables.specs.declared.Refusal.the-variants.{Version, Length, BadDocument, Room}
 use Rattle.packets.specs.Bytes.{high, low, half}
 
 -- the four bytes of node i
@@ -45,9 +47,9 @@ pub record DocumentSized (bs : List ℕ) (n : ℕ) : Type 0 where
 -- reading a document packet into lists of a and b entries: fewer than 3 bytes, the version, the rest of the length, the rules, the room
 abbrev pub documentChecks : List ℕ → ℕ → ℕ → List Check
 documentChecks bs a b =
-    record { asks = 3 ≤ length bs; gives = Length } ∷ record { asks = getD bs 0 0 ≡ 1; gives = Version }
-    ∷ record { asks = (n : ℕ) × DocumentSized bs n; gives = Length } ∷ record { asks = ValidDocument (packetDocument bs); gives = BadDocument }
-    ∷ record { asks = (nodesIn bs ≤ a) × (nodesIn bs ≤ b); gives = Room } ∷ []
+    record { asks = 3 ≤ length bs; gives = 2 } ∷ record { asks = getD bs 0 0 ≡ 1; gives = 1 }
+    ∷ record { asks = (n : ℕ) × DocumentSized bs n; gives = 2 } ∷ record { asks = ValidDocument (packetDocument bs); gives = 4 }
+    ∷ record { asks = (nodesIn bs ≤ a) × (nodesIn bs ≤ b); gives = 5 } ∷ []
 
 -- reading puts the nodes at the front of both lists and counts them; a refusal leaves both lists as they were
 abbrev pub ReadsDocument : List ℕ → List ℕ → List ℕ → Counted → List ℕ → List ℕ → Type 0

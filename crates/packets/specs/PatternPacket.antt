@@ -1,6 +1,9 @@
 -- Pattern packets: their bytes, what they are read as, and the two calls (docs/RULES.md, "Pattern packets").
+--   patternLength   what the length field holds
+--   stepBytes       the bytes of a step
 --   patternPacket   the bytes of a pattern
 --   packetShape     the pattern that bytes are read as
+--   PatternSized    the length field is right
 --   patternChecks   what reading checks, in order
 --   ReadsPattern    what reading answers
 --   writeChecks     what writing checks, in order
@@ -15,7 +18,6 @@ use Rattle.tables.specs.Pattern.{Shape, shapeOf, patternOf, zeroPattern, ValidS
 use Rattle.tables.specs.Refusal.{Check, Decided, CountedBy}
 use Rattle.tables.specs.declared.Pattern.{Pattern}
 use Rattle.tables.specs.declared.Counted.{Counted}
-use Rattle.tables.specs.declared.Refusal.the-variants.{Version, Length, BadPattern, Room}
 use Rattle.packets.specs.Bytes.{high, low, half}
 use Rattle.packets.specs.declared.PatternRead.{PatternRead}
 
@@ -51,8 +53,8 @@ pub record PatternSized (bs : List ℕ) (n : ℕ) : Type 0 where
 -- reading a pattern packet: fewer than 3 bytes, the version, the rest of the length, the rules
 abbrev pub patternChecks : List ℕ → List Check
 patternChecks bs =
-    record { asks = 3 ≤ length bs; gives = Length } ∷ record { asks = getD bs 0 0 ≡ 1; gives = Version }
-    ∷ record { asks = (n : ℕ) × PatternSized bs n; gives = Length } ∷ record { asks = ValidShape (packetShape bs); gives = BadPattern } ∷ []
+    record { asks = 3 ≤ length bs; gives = 2 } ∷ record { asks = getD bs 0 0 ≡ 1; gives = 1 }
+    ∷ record { asks = (n : ℕ) × PatternSized bs n; gives = 2 } ∷ record { asks = ValidShape (packetShape bs); gives = 3 } ∷ []
 
 -- reading gives the pattern of the packet, or a refusal with the zero pattern beside it
 abbrev pub ReadsPattern : List ℕ → PatternRead → Type 0
@@ -60,7 +62,7 @@ ReadsPattern bs r = Decided (patternChecks bs) (r .answer) (r .pattern ≡ patte
 
 -- writing a pattern into a buffer of m bytes: the rules, then the room
 abbrev pub writeChecks : Pattern → ℕ → List Check
-writeChecks p m = record { asks = ValidPattern p; gives = BadPattern } ∷ record { asks = patternLength (p .count) + 3 ≤ m; gives = Room } ∷ []
+writeChecks p m = record { asks = ValidPattern p; gives = 3 } ∷ record { asks = patternLength (p .count) + 3 ≤ m; gives = 5 } ∷ []
 
 -- writing puts the packet at the front of the buffer and counts its bytes; a refusal leaves the buffer as it was
 abbrev pub WritesPattern : Pattern → List ℕ → Counted → List ℕ → Type 0

@@ -1,4 +1,12 @@
--- Answers of a pattern in a document, and the lists that hold them (docs/RULES.md, "Answers"). Assumes nothing.
+-- Answers of a pattern in a document, and the lists that hold them (docs/RULES.md, "Answers").
+--   Begins     where step 0 may go
+--   Answer     a node is an answer
+--   Started    a node is an answer with step 0 at a start node
+--   In         a number stands in a list
+--   Ascending  a list is strictly ascending
+--   Lists      a list holds exactly the numbers of which a statement holds
+--   StartList  a list of start nodes is right
+-- Assumes nothing.
 use Prim.Native.Nat.{ℕ, suc, _<_}
 use mathlib.Core.Path.{_≡_}
 use mathlib.Core.List.{List}

@@ -5,7 +5,6 @@ use mathlib.Core.List.{List, [], _∷_}
 use Rattle.tables.specs.Pattern.{shapeOf, zeroPattern, ValidPattern}
 use Rattle.tables.specs.Refusal.{Check, Passes, Refuses}
 use Rattle.tables.specs.declared.Pattern.{Pattern}
-use Rattle.tables.specs.declared.Refusal.the-variants.{BadPattern, TooLarge}
 use Rattle.containment.specs.Mapping.{Equal}
 use Rattle.joining.specs.Join.{joinOf, Joinable}
 use Rattle.rewriting.specs.Candidate.{Candidate}
@@ -21,8 +20,8 @@ pub record Serves (Q U E : Pattern) : Type 0 where
 -- rewriting Q by U: Q's rules, U's rules, the size of both
 abbrev pub rewritingChecks : Pattern → Pattern → List Check
 rewritingChecks Q U =
-    record { asks = ValidPattern Q; gives = BadPattern } ∷ record { asks = ValidPattern U; gives = BadPattern }
-    ∷ record { asks = (Q .count ≤ 32) × (U .count ≤ 32); gives = TooLarge } ∷ []
+    record { asks = ValidPattern Q; gives = 3 } ∷ record { asks = ValidPattern U; gives = 3 }
+    ∷ record { asks = (Q .count ≤ 32) × (U .count ≤ 32); gives = 8 } ∷ []
 
 -- the answer by its cases: the candidate where it serves, else nothing; the pattern is zero unless it is handed over
 abbrev pub AnswersRewriting : Pattern → Pattern → Rewriting → Pattern → Type 0

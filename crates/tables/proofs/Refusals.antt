@@ -3,12 +3,34 @@ use Prim.Native.Nat.{ℕ}
 use mathlib.Core.Path.{_≡_, refl, sym, ap, _∙_}
 use mathlib.Core.Logic.{_⊎_, inl, inr, ⊎-elim}
 use mathlib.Core.List.{List, [], _∷_}
-use Rattle.tables.specs.Refusal.{Check, Passes, Refuses, Decided, CountedBy}
+use Rattle.tables.specs.Refusal.{number, Check, Passes, Refuses, Decided, CountedBy}
 use Rattle.tables.specs.declared.Refusal.{Refusal}
+use Rattle.tables.specs.declared.Refusal.the-variants.{Version, Length, BadPattern, BadDocument, Room, Start, OtherLabel, TooLarge, NoLabel}
+use lib.ListN.{getD}
 use Rattle.tables.specs.declared.Checked.{Checked}
 use Rattle.tables.specs.declared.Checked.the-variants as checked
 use Rattle.tables.specs.declared.Counted.{Counted}
 use Rattle.tables.specs.declared.Counted.the-variants as counted
+
+-- the refusals in the order of their numbers
+byNumber : List Refusal
+byNumber = Version ∷ Version ∷ Length ∷ BadPattern ∷ BadDocument ∷ Room ∷ Start ∷ OtherLabel ∷ TooLarge ∷ NoLabel ∷ []
+
+named : (r : Refusal) → getD byNumber (number r) Version ≡ r
+unfolding byNumber
+named Version = refl
+named Length = refl
+named BadPattern = refl
+named BadDocument = refl
+named Room = refl
+named Start = refl
+named OtherLabel = refl
+named TooLarge = refl
+named NoLabel = refl
+
+-- two refusals of one number are one
+pub number-unique : (r q : Refusal) → number r ≡ number q → r ≡ q
+number-unique r q e = sym (named r) ∙ ap (λ n. getD byNumber n Version) e ∙ named q
 
 -- a call that refuses does not answer
 pub refuses-not-passes : (cs : List Check) (r : Refusal) → Refuses cs r → Passes cs → ⊥
@@ -19,7 +41,7 @@ refuses-not-passes (c ∷ cs) r h p = ⊎-elim (λ w. w .0 (p .0)) (λ w. refuse
 pub refuses-unique : (cs : List Check) (r q : Refusal) → Refuses cs r → Refuses cs q → r ≡ q
 refuses-unique [] r q h k = absurd h
 refuses-unique (c ∷ cs) r q h k = ⊎-elim
-    (λ w. ⊎-elim (λ x. w .1 ∙ sym (x .1)) (λ x. absurd (w .0 (x .0))) k)
+    (λ w. ⊎-elim (λ x. number-unique r q (w .1 ∙ sym (x .1))) (λ x. absurd (w .0 (x .0))) k)
     (λ w. ⊎-elim (λ x. absurd (x .0 (w .0))) (λ x. refuses-unique cs r q (w .1) (x .1)) k)
     h
 

@@ -5,12 +5,11 @@ use Rattle.tables.specs.Pattern.{ValidPattern}
 use Rattle.tables.specs.Refusal.{Check, Decided}
 use Rattle.tables.specs.declared.Checked.{Checked}
 use Rattle.tables.specs.declared.Pattern.{Pattern}
-use Rattle.tables.specs.declared.Refusal.the-variants.{BadPattern, BadDocument}
 
 -- a document is right exactly where it obeys the rules, else it is refused
 abbrev pub ChecksDocument : Document → Checked → Type 0
-ChecksDocument d r = Decided (record { asks = ValidDocument d; gives = BadDocument } ∷ []) r (Unit {0}) (Unit {0})
+ChecksDocument d r = Decided (record { asks = ValidDocument d; gives = 4 } ∷ []) r (Unit {0}) (Unit {0})
 
 -- a pattern is right exactly where it obeys the rules, else it is refused
 abbrev pub ChecksPattern : Pattern → Checked → Type 0
-ChecksPattern p r = Decided (record { asks = ValidPattern p; gives = BadPattern } ∷ []) r (Unit {0}) (Unit {0})
+ChecksPattern p r = Decided (record { asks = ValidPattern p; gives = 3 } ∷ []) r (Unit {0}) (Unit {0})

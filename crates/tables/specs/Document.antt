@@ -22,7 +22,7 @@ nodesOf d = record {
   axis = λ i. 0;
 }
 
--- the rule for node i, given the nodes before it
+-- the rule for node i, where the nodes before it obey theirs
 pub record NodeRule (d : Document) (i : ℕ) : Type 0 where
   pub hangs : Hangs (nodesOf d .tree) 65535 i
   pub label : IsLabel (getD (d .labels) i 0)

@@ -1,8 +1,11 @@
 -- Pattern tables and their rules (docs/RULES.md, "Patterns"). The theory reads a table as functions, its shape.
 --   Shape         a pattern's steps as functions, and its output step
+--   rowsOf        the steps alone, as rows
 --   shapeOf       the shape that a table has: entries past the step count are not read
+--   tableOf       a table by its parts
 --   patternOf     the table that a shape has: entries past the step count are zero
---   StepRule      the rule for a step, given the steps before it
+--   StepRule      the rule for a step, where the steps before it obey theirs
+--   ValidShape    a shape obeys the rules
 --   ValidPattern  a table obeys the rules
 --   Clean         a table as it is handed out
 --   zeroPattern   the table beside a refusal
@@ -50,7 +53,7 @@ patternOf A =
 unfoldable pub zeroPattern : Pattern
 zeroPattern = tableOf 0 0 (replicate 64 0) (replicate 64 0) (replicate 64 0)
 
--- the rule for step s, given the steps before it
+-- the rule for step s, where the steps before it obey theirs
 pub record StepRule (A : Shape) (s : ℕ) : Type 0 where
   pub hangs : Hangs (A .tree) 255 s
   pub axis : (A .axis s ≡ 0) ⊎ (A .axis s ≡ 1)

@@ -1,4 +1,10 @@
 -- The refusal numbers, and what it is to refuse by the first check that fails (docs/RULES.md, "Refusals"). Each call's checks stand with that call.
+--   number     the number of each refusal
+--   Check      what a call asks, and the number that it gives where that fails
+--   Passes     every check holds
+--   Refuses    the first check that fails gives the refusal
+--   Decided    an answer by a list of checks
+--   CountedBy  the same for a call that counts
 -- Assumes nothing.
 use Prim.Native.Nat.{ℕ}
 use mathlib.Core.Path.{_≡_}
@@ -13,30 +19,39 @@ use Rattle.tables.specs.declared.Refusal.the-variants.{Version, Length, 
 
 -- the number of each refusal
 abbrev pub number : Refusal → ℕ
+-- the version byte of a packet is not 1
 number Version = 1
+-- a packet has fewer than 3 bytes, or a length that is not allowed or disagrees with the bytes present
 number Length = 2
+-- a pattern breaks its rules
 number BadPattern = 3
+-- a document breaks its rules, lists of unequal length included
 number BadDocument = 4
+-- a lent list or buffer is too short
 number Room = 5
+-- a compensation's step 0 has axis descendant, or a start list is not ascending node numbers of the document
 number Start = 6
+-- the compensation's step 0 and the view's output step have different labels
 number OtherLabel = 7
+-- a join would pass 64 steps, or a query or a view for rewriting passes 32
 number TooLarge = 8
+-- two patterns leave no label for a witness
 number NoLabel = 9
 
--- a check of a call: what it asks, and the refusal that it gives where that does not hold
+-- a check of a call: what it asks, and the number of the refusal that it gives where that does not hold
 pub record Check : Type 1 where
   pub asks : Type 0
-  pub gives : Refusal
+  pub gives : ℕ
 
 -- every check holds: the call answers
 abbrev pub Passes : List Check → Type 0
 Passes [] = Unit {0}
 Passes (c ∷ cs) = c .asks × Passes cs
 
--- the first check that fails gives the refusal r
+-- the first check that fails gives the number of the refusal r
 abbrev pub Refuses : List Check → Refusal → Type 0
 Refuses [] r = ⊥
-Refuses (c ∷ cs) r = ((c .asks → ⊥) × (r ≡ c .gives)) ⊎ (c .asks × Refuses cs r)
+Refuses (c ∷ cs) r = ((c .asks → ⊥) × (number r ≡ c .gives)) ⊎ (c .asks × Refuses cs r)
 
 -- a call's answer by its checks: right, with X, where all hold; else the refusal, with Y
 abbrev pub Decided : List Check → Checked → Type 0 → Type 0 → Type 0

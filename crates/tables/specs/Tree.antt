@@ -3,7 +3,8 @@
 --   Child   a later row and its parent
 --   Below   a row and its proper descendant
 --   From    a row and itself or its proper descendant
---   Hangs   the rule for a row's parent, given the rows before it
+--   Hangs   the rule for a row's parent, where the rows before it hang right
+--   IsLabel  a label's range
 --   Rows    a tree with a label on each row and an axis on the edge above it
 -- Assumes nothing.
 use Prim.Native.Nat.{ℕ, zero, suc, _<_, _≤_}
@@ -30,7 +31,7 @@ pub data Below (T : Tree) : ℕ → ℕ → Type 0 where
 abbrev pub From : Tree → ℕ → ℕ → Type 0
 From T a i = (a ≡ i) ⊎ Below T a i
 
--- row i hangs right: row 0 on the mark `root`, a later row on the row just before it or on an ancestor of that row
+-- row i hangs right, where the rows before it do: row 0 on the mark `root`, a later row on the row just before it or on an ancestor of that row
 abbrev pub Hangs : Tree → ℕ → ℕ → Type 0
 Hangs T root zero = T .parent 0 ≡ root
 Hangs T root (suc i) = From T (T .parent (suc i)) i

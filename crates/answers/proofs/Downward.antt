@@ -1,0 +1,156 @@
+-- The second pass, node by node: where a step stands in a whole placement, and what its child steps may then take. Assumes nothing.
+use Prim.Native.Nat.{ℕ, zero, suc, _+_, _*_, _≤_, _<_}
+use mathlib.Core.Path.{_≡_, refl, sym, ap, _∙_, subst}
+use mathlib.Core.Logic.{_⊎_, inl, inr, ⊎-elim}
+use mathlib.Core.List.{List}
+use native.Mathlib.Omega.{arith}
+use native.Mathlib.Nat.{eq-zero-or-pos}
+use native.Mathlib.Decide.{ℕ-discrete}
+use lib.ListN.{length, getD}
+use Rattle.tables.specs.Bits.{bit, Marks}
+use Rattle.tables.specs.Tree.{Child, Below, child, From}
+use Rattle.tables.specs.Document.{Document, nodeCount, nodesOf, ValidDocument}
+use Rattle.tables.specs.Pattern.{Shape, ValidShape}
+use Rattle.tables.proofs.Choice.{below-or-at}
+use Rattle.tables.proofs.Marks.{marks-to}
+use Rattle.tables.proofs.Rules.{document-ordered, shape-ordered}
+use Rattle.tables.proofs.Trees.{below-lt, below-parent, from-child, from-le, parent-lt}
+use Rattle.placing.specs.Placement.{Goes}
+use Rattle.placing.proofs.Fit.{Whole, whole-able, whole-root, whole-up, whole-down}
+use Rattle.placing.proofs.Sending.{task, reaches-whole}
+use Rattle.answers.specs.Working.{FitsAt, PlacedAt}
+use Rattle.answers.specs.Plan.{ToChildren, Led}
+use Rattle.answers.specs.Passes.{Upward, Allowed, Downward}
+use Rattle.answers.proofs.NodeFits.{fits-able, able-fits}
+
+module _ (A : Shape) (d : Document) (First : ℕ → Type 0) (va : ValidShape A) (vd : ValidDocument d) where
+  placed-whole : (i s : ℕ) → PlacedAt A d First i s → Whole (task A (nodesOf d)) First s i
+  placed-whole i s h = reaches-whole A (nodesOf d) First s i .1 (h .1)
+
+  whole-placed : (i s : ℕ) → s < A .tree .size → Whole (task A (nodesOf d)) First s i → PlacedAt A d First i s
+  whole-placed i s l w = (l, reaches-whole A (nodesOf d) First s i .0 w)
+
+  placed-fits : (i s : ℕ) → PlacedAt A d First i s → FitsAt A d i s
+  placed-fits i s h = able-fits A d va s i (h .0) (whole-able (task A (nodesOf d)) First (shape-ordered va) s i (h .0) (placed-whole i s h))
+
+  placed-first : (i : ℕ) → PlacedAt A d First i 0 → First i
+  placed-first i h = let w = placed-whole i 0 h in subst First (w .at) (w .start)
+
+  first-placed : (i : ℕ) → FitsAt A d i 0 → First i → PlacedAt A d First i 0
+  first-placed i h f = whole-placed i 0 (h .0) (whole-root (task A (nodesOf d)) First (shape-ordered va) i f (fits-able A d va 0 i h .1))
+
+  -- a step that stands in a placement has its parent step standing above it
+  placed-up : (i s t : ℕ) → Child (A .tree) s t → PlacedAt A d First i t → (j : ℕ) × PlacedAt A d First j s × Goes (nodesOf d) (A .axis t) j i
+  placed-up i s t c h =
+      let w = whole-up (task A (nodesOf d)) First t s i c (placed-whole i t h) in
+      (w .0, whole-placed (w .0) s (omega (arith, below-lt (shape-ordered va) (child c), c .here)) (w .1), w .2)
+
+  placed-down : (i j s t : ℕ) → Child (A .tree) s t → PlacedAt A d First j s → Goes (nodesOf d) (A .axis t) j i → FitsAt A d i t → PlacedAt A d First i t
+  placed-down i j s t c h g f = whole-placed i t (f .0) (whole-down (task A (nodesOf d)) First (shape-ordered va) t s i j c (placed-whole j s h) g (fits-able A d va t i f .1))
+
+  axis-one : (t a : ℕ) → t < A .tree .size → A .axis t ≡ suc a → A .axis t ≡ 1
+  axis-one t a l e = ⊎-elim (λ z. absurd (omega arith)) (λ z. z) (va .steps t l .axis)
+
+  -- every step but the first hangs on its parent step
+  hangs : (t : ℕ) → 0 < t → t < A .tree .size → Child (A .tree) (A .tree .parent t) t
+  hangs t p l = record { late = p; here = l; up = refl }
+
+  module _ (p i : ℕ) (c : Child (nodesOf d .tree) p i) where
+    -- what a node with a parent takes: steps that fit, and are allowed by the parent or start there
+    abbrev Taken : ℕ → Type 0
+    Taken s = FitsAt A d i s × (Allowed A d First p s ⊎ ((s ≡ 0) × First i))
+
+    taken-placed : (t : ℕ) → Taken t → PlacedAt A d First i t
+    taken-placed t h = ⊎-elim
+        (λ w. ⊎-elim (λ x. placed-down i p (w .0) t (w .1) (x .1) (rw (x .0) (c, refl)) (h .0))
+        (λ x. placed-down i (x .1 .0) (w .0) t (w .1) (x .1 .2) (rw (x .0) (from-child (x .1 .1) c)) (h .0)) (w .2))
+        (λ w. subst (PlacedAt A d First i) (sym (w .0)) (first-placed i (subst (FitsAt A d i) (w .0) (h .0)) (w .1))) (h .1)
+
+    above : (t s j a : ℕ) → A .axis t ≡ a → t < A .tree .size → Child (A .tree) s t → Goes (nodesOf d) a j i → PlacedAt A d First j s → Allowed A d First p t
+    above t s j zero e l k g h = (s, k, inl (e, subst (λ (x : ℕ). PlacedAt A d First x s) (sym (g .0 .up) ∙ c .up) h))
+    above t s j (suc a) e l k g h = (s, k, inr (axis-one t a l e, (j, below-parent g c, h)))
+
+    placed-taken : (t : ℕ) → PlacedAt A d First i t → Taken t
+    placed-taken t h = (
+      placed-fits i t h,
+      ⊎-elim
+          (λ z. inr (z, placed-first i (subst (PlacedAt A d First i) z h)))
+          (λ q. let k = hangs t q (h .0) in let u = placed-up i (A .tree .parent t) t k h in inl (above t (A .tree .parent t) (u .0) (A .axis t) refl (h .0) k (u .2) (u .1)))
+          (eq-zero-or-pos t),
+    )
+
+    pub node-placed : (x : ℕ) → Marks x Taken → Marks x (PlacedAt A d First i)
+    node-placed x m = marks-to x Taken (PlacedAt A d First i) taken-placed placed-taken m
+
+    -- what the node's children may take: child steps of those that stand at it, and what was allowed from further above
+    module _ (whole : ℕ) (mw : Marks whole (PlacedAt A d First i)) where
+      abbrev Passed : ℕ → Type 0
+      Passed t = Led (ToChildren A) whole t ⊎ (Allowed A d First p t × (A .axis t ≡ 1))
+
+      passed-allowed : (t : ℕ) → Passed t → Allowed A d First i t
+      passed-allowed t h = ⊎-elim
+          (λ w. (w .0, w .2, ⊎-elim (λ e. inl (e, mw .only (w .0) (w .1))) (λ e. inr (e, (i, inl refl, mw .only (w .0) (w .1)))) (va .steps t (w .2 .here) .axis)))
+          (λ w. (w .0 .0, w .0 .1, ⊎-elim (λ x. absurd (omega (arith, x .0, w .1))) (λ x. inr (x .0, (x .1 .0, inr (from-child (x .1 .1) c), x .1 .2))) (w .0 .2))) h
+
+      allowed-passed : (t : ℕ) → Allowed A d First i t → Passed t
+      allowed-passed t h = ⊎-elim
+          (λ x. inl (h .0, mw .put (h .0) (x .1), h .1))
+          (λ x. ⊎-elim
+          (λ e. inl (h .0, mw .put (h .0) (subst (λ (y : ℕ). PlacedAt A d First y (h .0)) e (x .1 .2)), h .1))
+          (λ b. inr ((h .0, h .1, inr (x .0, (x .1 .0, below-parent b c, x .1 .2))), x .0)) (x .1 .1))
+          (h .2)
+
+      pub node-allowed : (x : ℕ) → Marks x Passed → Marks x (Allowed A d First i)
+      node-allowed x m = marks-to x Passed (Allowed A d First i) passed-allowed allowed-passed m
+
+  -- node 0 has nothing above it
+  no-above : (a j : ℕ) → Goes (nodesOf d) a j 0 → ⊥
+  no-above zero j g = omega (arith, g .0 .late)
+  no-above (suc a) j g = omega (arith, below-lt (document-ordered vd) g)
+
+  pub root-placed : (x : ℕ) → Marks x (λ s. FitsAt A d 0 s × ((s ≡ 0) × First 0)) → Marks x (PlacedAt A d First 0)
+  root-placed x m = marks-to x (λ s. FitsAt A d 0 s × ((s ≡ 0) × First 0)) (PlacedAt A d First 0)
+      (λ t h. subst (PlacedAt A d First 0) (sym (h .1 .0)) (first-placed 0 (subst (FitsAt A d 0) (h .1 .0) (h .0)) (h .1 .1)))
+      (λ t h. (
+        placed-fits 0 t h,
+        ⊎-elim
+            (λ z. (z, placed-first 0 (subst (PlacedAt A d First 0) z h)))
+            (λ q. absurd (let u = placed-up 0 (A .tree .parent t) t (hangs t q (h .0)) h in no-above (A .axis t) (u .0) (u .2))) (eq-zero-or-pos t),
+      ))
+      m
+
+  pub root-allowed : (whole : ℕ) → Marks whole (PlacedAt A d First 0) → (x : ℕ) → Marks x (Led (ToChildren A) whole) → Marks x (Allowed A d First 0)
+  root-allowed whole mw x m = marks-to x (Led (ToChildren A) whole) (Allowed A d First 0)
+      (λ t w. (w .0, w .2, ⊎-elim (λ e. inl (e, mw .only (w .0) (w .1))) (λ e. inr (e, (0, inl refl, mw .only (w .0) (w .1)))) (va .steps t (w .2 .here) .axis)))
+      (λ t h. (h .0, mw .put (h .0) (⊎-elim (λ x. x .1) (λ x. subst (λ (y : ℕ). PlacedAt A d First y (h .0)) (top (x .1 .0) (x .1 .1)) (x .1 .2)) (h .2)), h .1))
+      m
+    where
+      top : (a : ℕ) → From (nodesOf d .tree) a 0 → a ≡ 0
+      top a w = omega (arith, from-le (document-ordered vd) a 0 w)
+
+  -- before the first turn
+  pub down-start : (seed : ℕ) (before work allowed : List ℕ) → Upward A d seed 0 before work → ((i : ℕ) → i < nodeCount d → Marks (getD work (2 * i + 1) 0) (λ s. (s ≡ 0) × First i))
+      → Downward A d First 0 before work allowed
+  down-start seed before work allowed u m = record {
+    same-length = u .same-length;
+    fits = λ i l. u .fits i (omega arith) l;
+    placed = λ i l. absurd (omega arith);
+    starts = λ i k l. m i l;
+    allows = λ i l. absurd (omega arith);
+    rest = u .rest;
+  }
+
+  -- one turn: node i gets its second entry, and what its children may take
+  pub down-turn : (i whole x : ℕ) (before work after allowed allowed′ : List ℕ) → i < nodeCount d → Downward A d First i before work allowed
+      → Marks whole (PlacedAt A d First i) → Marks x (Allowed A d First i)
+      → length after ≡ length work → getD after (2 * i + 1) 0 ≡ whole → ((q : ℕ) → (q ≡ 2 * i + 1 → ⊥) → getD after q 0 ≡ getD work q 0)
+      → getD allowed′ i 0 ≡ x → ((k : ℕ) → k < i → getD allowed′ k 0 ≡ getD allowed k 0)
+      → Downward A d First (suc i) before after allowed′
+  down-turn i whole x before work after allowed allowed′ l u mw mx e a r b s = record {
+    same-length = e ∙ u .same-length;
+    fits = λ k m. rw (r (2 * k) (λ z. omega arith)) (u .fits k m);
+    placed = λ k m. below-or-at m (λ h. rw (r (2 * k + 1) (λ z. omega arith)) (u .placed k h)) (λ z. subst (λ (y : ℕ). Marks (getD after (2 * y + 1) 0) (PlacedAt A d First y)) (sym z) (rw a mw));
+    starts = λ k m n. rw (r (2 * k + 1) (λ z. omega arith)) (u .starts k (omega arith) n);
+    allows = λ k m. below-or-at m (λ h. rw (s k h) (u .allows k h)) (λ z. subst (λ (y : ℕ). Marks (getD allowed′ y 0) (Allowed A d First y)) (sym z) (rw b mx));
+    rest = λ q m. r q (λ z. omega arith) ∙ u .rest q m;
+  }
