@@ -3,4 +3,5 @@ pub mod Tested
 pub mod NodeFits
 pub mod Upward
 pub mod Downward
+pub mod Listed
 pub mod Unique

@@ -1,18 +1,20 @@
 -- What the two passes keep from node to node. Only private functions cite this file: a reader of the public contracts need not read it. Assumes nothing.
 --   Upward     nodes from k on have their first entry; earlier ones have gathered what fits at their later children, and at or below them
 --   Handed     one node's turn in the first pass
+--   Ready      what the second pass starts from
 --   Downward   nodes before k have both entries, and the steps that their child nodes may take
---   Passed     one node's turn in the second pass
+--   Listed     the answers among the nodes before k stand at the front of the answer list
 use Prim.Native.Nat.{ℕ, _+_, _*_, _≤_, _<_}
 use mathlib.Core.Path.{_≡_}
 use mathlib.Core.Logic.{_⊎_}
-use mathlib.Core.List.{List}
+use mathlib.Core.List.{List, _++_}
 use lib.Bits.{bitOr}
-use lib.ListN.{length, getD}
+use lib.ListN.{length, getD, drop}
 use Rattle.tables.specs.Bits.{Marks}
 use Rattle.tables.specs.Tree.{Child, From}
 use Rattle.tables.specs.Document.{Document, nodeCount, nodesOf}
 use Rattle.tables.specs.Pattern.{Shape}
+use Rattle.placing.specs.Answer.{Started, Lists}
 use Rattle.answers.specs.Working.{FitsAt, PlacedAt}
 
 -- step s fits at a child of node i that is k or later
@@ -41,6 +43,16 @@ pub record Handed (before : List ℕ) (i p fit below seed : ℕ) (after : List �
   pub others : (k : ℕ) → k < i → (k ≡ p → ⊥) → (getD after (2 * k) 0 ≡ getD before (2 * k) 0) × (getD after (2 * k + 1) 0 ≡ getD before (2 * k + 1) 0)
   pub later : (q : ℕ) → 2 * i + 2 ≤ q → getD after q 0 ≡ getD before q 0
 
+-- node i is marked as a start: its second entry is 1
+abbrev pub Marked : List ℕ → ℕ → Type 0
+Marked work i = getD work (2 * i + 1) 0 ≡ 1
+
+-- every node has its first entry, and a second entry of 1 or 0
+pub record Ready (A : Shape) (d : Document) (work : List ℕ) : Type 0 where
+  pub room : 2 * nodeCount d ≤ length work
+  pub fits : (i : ℕ) → i < nodeCount d → Marks (getD work (2 * i) 0) (FitsAt A d i)
+  pub flags : (i : ℕ) → i < nodeCount d → Marked work i ⊎ (getD work (2 * i + 1) 0 ≡ 0)
+
 -- step t may stand at a child of node i, or for axis descendant below node i, since its parent step stands at i, or above
 abbrev pub Allowed : Shape → Document → (ℕ → Type 0) → ℕ → ℕ → Type 0
 Allowed A d First i t =
@@ -54,3 +66,11 @@ pub record Downward (A : Shape) (d : Document) (First : ℕ → Type 0) (k : ℕ
   pub starts : (i : ℕ) → k ≤ i → i < nodeCount d → Marks (getD work (2 * i + 1) 0) (λ s. (s ≡ 0) × First i)
   pub allows : (i : ℕ) → i < k → Marks (getD allowed i 0) (Allowed A d First i)
   pub rest : (q : ℕ) → 2 * nodeCount d ≤ q → getD work q 0 ≡ getD before q 0
+
+-- c answers among the nodes before k, ascending at the front of the list
+pub record Listed (A : Shape) (d : Document) (First : ℕ → Type 0) (k c : ℕ) (before list : List ℕ) : Type 0 where
+  pub answers : List ℕ
+  pub lists : Lists (λ i. (i < k) × Started First A d i) answers
+  pub count : c ≡ length answers
+  pub few : c ≤ k
+  pub written : list ≡ answers ++ drop c before

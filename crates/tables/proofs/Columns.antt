@@ -5,8 +5,9 @@ use mathlib.Core.List.{List, [], _∷_, _++_}
 use native.Mathlib.Omega.{arith}
 use native.Mathlib.Nat.{zero-mul, suc-mul}
 use native.Mathlib.Decide.{decLt}
-use lib.ListN.{length, getD, drop, replicate, length-append, length-drop, length-replicate, getD-replicate, List·getD-append, List·getD-eq-default}
-use lib.Seq.{getD-append-add, getD-drop, ext-getD}
+use native.Mathlib.Numerals.{add-one}
+use lib.ListN.{length, getD, drop, set, replicate, length-append, length-drop, length-replicate, getD-replicate, List·getD-append, List·getD-eq-default}
+use lib.Seq.{getD-append-add, getD-drop, ext-getD, drop-cons, set-at, append-snoc}
 use Rattle.tables.specs.Column.{blocks, column, padded}
 use Rattle.tables.proofs.Choice.{below-or-at}
 
@@ -76,3 +77,9 @@ padded-length f n l =
 
 pub padded-ext : (f g : ℕ → ℕ) (n : ℕ) → ((k : ℕ) → k < n → f k ≡ g k) → padded f n ≡ padded g n
 padded-ext f g n h = ap (λ l. l ++ drop n (replicate 64 0)) (column-ext f g n h)
+
+-- one entry more at the front of a lent list
+pub put-next : (xs before : List ℕ) (v c : ℕ) → c ≡ length xs → c < length before → set (xs ++ drop c before) c v ≡ (xs ++ (v ∷ [])) ++ drop (c + 1) before
+put-next xs before v c e l =
+    ap (λ r. set (xs ++ r) c v) (drop-cons before c 0 l) ∙ set-at xs (getD before c 0) (drop (suc c) before) v c (sym e)
+    ∙ ap (λ n. xs ++ (v ∷ drop n before)) (sym (add-one c)) ∙ sym (append-snoc xs v (drop (c + 1) before))

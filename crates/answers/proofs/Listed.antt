@@ -1,0 +1,115 @@
+-- The answer list of the second pass, node by node, and what the start marks stand for. Assumes nothing.
+use Prim.Native.Nat.{ℕ, zero, suc, _+_, _*_, _≤_, _<_}
+use mathlib.Core.Path.{_≡_, refl, sym, ap, _∙_, subst}
+use mathlib.Core.Logic.{_⊎_, inl, inr, ⊎-elim, _↔_}
+use mathlib.Core.List.{List, [], _∷_, _++_}
+use native.Mathlib.Omega.{arith}
+use lib.ListN.{length, getD, drop, set, length-append}
+use Rattle.tables.specs.Bits.{bit, Marks}
+use Rattle.tables.specs.Document.{Document, nodeCount, nodesOf}
+use Rattle.tables.specs.Pattern.{Shape, ValidShape}
+use Rattle.tables.proofs.Choice.{below-or-at}
+use Rattle.tables.proofs.Columns.{put-next}
+use Rattle.tables.proofs.Marks.{marks-one, marks-none, marks-to}
+use Rattle.placing.specs.Placement.{Reaches}
+use Rattle.placing.specs.Answer.{Started, Lists}
+use Rattle.placing.proofs.Listing.{lists-none, lists-more, lists-iff}
+use Rattle.answers.specs.Working.{PlacedAt, Working}
+use Rattle.answers.specs.Answers.{Found}
+use Rattle.answers.specs.Passes.{Marked, Ready, Downward, Listed}
+
+-- where two ways to say the start agree on the nodes, placements agree
+pub reaches-first : (A : Shape) (d : Document) (First Other : ℕ → Type 0) → ValidShape A → ((i : ℕ) → i < nodeCount d → First i → Other i) → (s i : ℕ)
+    → Reaches A (nodesOf d) First s i → Reaches A (nodesOf d) Other s i
+reaches-first A d First Other va f s i r = record {
+  by = r .by;
+  sends = r .sends;
+  first = f (r .by 0) (r .sends .takes 0 (va .some) .here) (r .first);
+  at = r .at;
+}
+
+-- an answer is a node
+pub started-here : (A : Shape) (d : Document) (First : ℕ → Type 0) → ValidShape A → (i : ℕ) → Started First A d i → i < nodeCount d
+started-here A d First va i r = subst (λ (x : ℕ). x < nodeCount d) (r .at) (r .sends .takes (A .output) (va .output) .here)
+
+-- what a call has found does not depend on how the start is said
+pub found-first : (A : Shape) (d : Document) (First Other : ℕ → Type 0) → ValidShape A → ((i : ℕ) → i < nodeCount d → First i ↔ Other i) → (list₀ work₀ : List ℕ) (c : ℕ) (list work : List ℕ)
+    → Found A d First list₀ work₀ c list work → Found A d Other list₀ work₀ c list work
+found-first A d First Other va e list₀ work₀ c list work h = record {
+  answers = h .answers;
+  lists = lists-iff (h .lists) (λ i. (to (A .output) i, back (A .output) i));
+  count = h .count;
+  written = h .written;
+  working = record {
+    same-length = h .working .same-length;
+    fits = h .working .fits;
+    placed = λ i l. marks-to (getD work (2 * i + 1) 0) (PlacedAt A d First i) (PlacedAt A d Other i) (λ s w. (w .0, to s i (w .1))) (λ s w. (w .0, back s i (w .1))) (h .working .placed i l);
+    rest = h .working .rest;
+  };
+}
+  where
+    to : (s i : ℕ) → Reaches A (nodesOf d) First s i → Reaches A (nodesOf d) Other s i
+    to = reaches-first A d First Other va (λ i l. e i l .0)
+
+    back : (s i : ℕ) → Reaches A (nodesOf d) Other s i → Reaches A (nodesOf d) First s i
+    back = reaches-first A d Other First va (λ i l. e i l .1)
+
+-- the second entries before the pass mark step 0 at the start nodes
+pub ready-starts : (A : Shape) (d : Document) (work : List ℕ) → Ready A d work → (i : ℕ) → i < nodeCount d → Marks (getD work (2 * i + 1) 0) (λ s. (s ≡ 0) × Marked work i)
+ready-starts A d work r i l = ⊎-elim
+    (λ e. subst (λ (x : ℕ). Marks x (λ s. (s ≡ 0) × Marked work i)) (sym e) (marks-to 1 (λ s. s ≡ 0) (λ s. (s ≡ 0) × Marked work i) (λ s z. (z, e)) (λ s z. z .0) (marks-one 0)))
+    (λ e. subst (λ (x : ℕ). Marks x (λ s. (s ≡ 0) × Marked work i)) (sym e) (marks-none (λ s. (s ≡ 0) × Marked work i) (λ s w. omega (arith, w .1)))) (r .flags i l)
+
+pub down-ready : (A : Shape) (d : Document) (work allowed : List ℕ) → Ready A d work → Downward A d (Marked work) 0 work work allowed
+down-ready A d work allowed r = record {
+  same-length = refl;
+  fits = r .fits;
+  placed = λ i l. absurd (omega arith);
+  starts = λ i k l. ready-starts A d work r i l;
+  allows = λ i l. absurd (omega arith);
+  rest = λ q l. refl;
+}
+
+module _ (A : Shape) (d : Document) (First : ℕ → Type 0) (va : ValidShape A) where
+  pub listed-start : (before : List ℕ) → Listed A d First 0 0 before before
+  listed-start before = record {
+    answers = [];
+    lists = lists-none (λ i. (i < 0) × Started First A d i) (λ i q. omega (arith, q .0));
+    count = refl;
+    few = omega arith;
+    written = refl;
+  }
+
+  -- a node that is no answer
+  pub listed-skip : (k c : ℕ) (before list : List ℕ) → Listed A d First k c before list → (Started First A d k → ⊥) → Listed A d First (suc k) c before list
+  listed-skip k c before list h n = record {
+    answers = h .answers;
+    lists = lists-iff (h .lists) (λ i. (λ q. (omega (arith, q .0), q .1), λ q. below-or-at (q .0) (λ l. (l, q .1)) (λ e. absurd (n (subst (Started First A d) e (q .1))))));
+    count = h .count;
+    few = omega (arith, h .few);
+    written = h .written;
+  }
+
+  -- a node that is one is put at the end of those before it
+  pub listed-put : (k c : ℕ) (before list : List ℕ) → Listed A d First k c before list → Started First A d k → c < length before → Listed A d First (suc k) (c + 1) before (set list c k)
+  listed-put k c before list h a l = record {
+    answers = h .answers ++ (k ∷ []);
+    lists = lists-iff (lists-more (λ i. (i < k) × Started First A d i) (h .answers) k (h .lists) (λ i q. q .0)) (λ i. (
+      λ q. ⊎-elim (λ x. (omega (arith, x .0), x .1)) (λ e. (omega arith, subst (Started First A d) (sym e) a)) q,
+      λ q. below-or-at (q .0) (λ m. inl (m, q .1)) (λ e. inr e),
+    ));
+    count = omega (arith, h .count, length-append (h .answers) (k ∷ []));
+    few = omega (arith, h .few);
+    written = ap (λ x. set x c k) (h .written) ∙ put-next (h .answers) before k c (h .count) l;
+  }
+
+  -- after the last node the list is that of all answers
+  pub listed-found : (c : ℕ) (list₀ list work₀ work allowed : List ℕ) → Listed A d First (nodeCount d) c list₀ list → Downward A d First (nodeCount d) work₀ work allowed
+      → Found A d First list₀ work₀ c list work
+  listed-found c list₀ list work₀ work allowed h u = record {
+    answers = h .answers;
+    lists = lists-iff (h .lists) (λ i. (λ q. q .1, λ a. (started-here A d First va i a, a)));
+    count = h .count;
+    written = h .written;
+    working = record { same-length = u .same-length; fits = u .fits; placed = u .placed; rest = u .rest };
+  }
