@@ -1,7 +1,12 @@
--- The answers of a pattern by a test that runs, and that no second result fits. Assumes nothing.
+-- The answers of a pattern: a test that runs, that no second result fits, and the laws that the plan and the two passes cite. Assumes nothing.
 pub mod Tested
+pub mod Unique
+pub mod Gathering
+pub mod Lookups
+pub mod Fitting
 pub mod NodeFits
 pub mod Upward
 pub mod Downward
 pub mod Listed
-pub mod Unique
+pub mod Stores
+pub mod Starts

@@ -7,7 +7,8 @@ use native.Mathlib.Omega.{arith}
 use native.Mathlib.Nat.{eq-or-lt-of-le}
 use native.Mathlib.Decide.{ℕ-discrete}
 use lib.Bits.{bitOr}
-use lib.ListN.{length, getD}
+use lib.ListN.{length, getD, set, length-set}
+use lib.Seq.{getD-set-same, getD-set-other}
 use Rattle.tables.specs.Bits.{Marks}
 use Rattle.tables.specs.Tree.{Child, Below, child, From}
 use Rattle.tables.specs.Document.{Document, nodeCount, nodesOf, ValidDocument}
@@ -113,15 +114,37 @@ module _ (A : Shape) (d : Document) (va : ValidShape A) (vd : ValidDocument d) (
     }
 
   -- the last turn is node 0's
-  pub up-end : (fit : ℕ) (before work after : List ℕ) → Upward A d seed 1 before work → Marks fit (FitsAt A d 0) → length after ≡ length work → getD after 0 0 ≡ fit → getD after 1 0 ≡ seed
-      → ((q : ℕ) → 2 ≤ q → getD after q 0 ≡ getD work q 0) → Upward A d seed 0 before after
-  up-end fit before work after u m e a b r = record {
-    same-length = e ∙ u .same-length;
+  pub up-root : (fit : ℕ) (before work : List ℕ) → Upward A d seed 1 before work → Marks fit (FitsAt A d 0) → 1 < length work → Upward A d seed 0 before (set (set work 0 fit) 1 seed)
+  up-root fit before work u m h = record {
+    same-length = simp length-set (u .same-length);
     fits = λ x k l. ⊎-elim
-        (λ z. subst (λ (y : ℕ). Marks (getD after (2 * y) 0) (FitsAt A d y)) z (rw a m))
-        (λ g. rw (r (2 * x) (omega arith)) (u .fits x g l)) (eq-or-lt-of-le k);
-    seeded = λ x k l. ⊎-elim (λ z. ap (λ y. getD after (2 * y + 1) 0) (sym z) ∙ b) (λ g. r (2 * x + 1) (omega arith) ∙ u .seeded x g l) (eq-or-lt-of-le k);
+        (λ z. subst (λ (y : ℕ). Marks (getD after (2 * y) 0) (FitsAt A d y)) z (rw own m))
+        (λ g. rw (old (2 * x) (omega arith)) (u .fits x g l)) (eq-or-lt-of-le k);
+    seeded = λ x k l. ⊎-elim
+        (λ z. ap (λ y. getD after (2 * y + 1) 0) (sym z) ∙ getD-set-same (set work 0 fit) 1 seed 0 (simp length-set h))
+        (λ g. old (2 * x + 1) (omega arith) ∙ u .seeded x g l) (eq-or-lt-of-le k);
     children = λ x l. absurd (omega arith);
     under = λ x l. absurd (omega arith);
-    rest = λ q l. r q (omega (arith, vd .some)) ∙ u .rest q l;
+    rest = λ q l. old q (omega (arith, vd .some)) ∙ u .rest q l;
+  }
+    where
+      after : List ℕ
+      after = set (set work 0 fit) 1 seed
+
+      own : getD after 0 0 ≡ fit
+      own = getD-set-other (set work 0 fit) 1 0 seed 0 (omega arith) ∙ getD-set-same work 0 fit 0 (omega arith)
+
+      old : (q : ℕ) → 2 ≤ q → getD after q 0 ≡ getD work q 0
+      old q l = getD-set-other (set work 0 fit) 1 q seed 0 (omega arith) ∙ getD-set-other work 0 q fit 0 (omega arith)
+
+  -- what the list held before matters only in its length and past the nodes' entries
+  pub up-before : (k : ℕ) (before cleared work : List ℕ) → length cleared ≡ length before → ((q : ℕ) → 2 * nodeCount d ≤ q → getD cleared q 0 ≡ getD before q 0)
+      → Upward A d seed k cleared work → Upward A d seed k before work
+  up-before k before cleared work e r u = record {
+    same-length = u .same-length ∙ e;
+    fits = u .fits;
+    seeded = u .seeded;
+    children = u .children;
+    under = u .under;
+    rest = λ q l. u .rest q l ∙ r q l;
   }

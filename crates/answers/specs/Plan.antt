@@ -9,7 +9,7 @@ use lib.Bits.{bitAnd, bitOr, bitXor}
 use lib.ListN.{length, getD}
 use Rattle.tables.specs.Tree.{Child}
 use Rattle.tables.specs.Bits.{bit, Marks}
-use Rattle.tables.specs.Pattern.{Shape}
+use Rattle.tables.specs.Pattern.{Shape, ValidShape}
 
 -- a flag says whether X holds
 abbrev pub Says : Bool → Type 0 → Type 0
@@ -70,3 +70,11 @@ abbrev pub FitsBy : Shape → ℕ → ℕ → ℕ → ℕ → Type 0
 FitsBy A l c d s =
     (s < A .tree .size) × (A .label s ≡ l)
     × ((t : ℕ) → Child (A .tree) s t → ((A .axis t ≡ 0) × (bit c t ≡ 1)) ⊎ ((A .axis t ≡ 1) × (bit d t ≡ 1)))
+
+-- the tables of a plan are those of a pattern that obeys the rules
+pub record PlanOf (A : Shape) (low high lack : List ℕ) (ch de : ℕ) : Type 0 where
+  pub valid : ValidShape A
+  pub labelled : Labelled A low high
+  pub lacking : Spread (ToParent A) (A .tree .size) lack
+  pub child-steps : Marks ch (OfAxis A 0)
+  pub descendant-steps : Marks de (OfAxis A 1)

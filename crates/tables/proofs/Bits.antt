@@ -1,11 +1,12 @@
 -- Laws of the bits of a number. Assumes nothing.
 use Prim.Native.Nat.{ℕ, zero, suc, _+_, _*_, _-_, _/_, _%_, _^_, _<_, _≤_, min, max}
-use mathlib.Core.Path.{_≡_, refl, _∙_, ap, sym}
+use mathlib.Core.Path.{_≡_, _∙_, sym}
 use native.Mathlib.Omega.{arith}
-use native.Mathlib.Nat.{div-self, mul-div-right, div-eq-of-lt, pow-suc, pow-succ', div-div-eq-div-mul}
+use native.Mathlib.Nat.{lt-of-lt-of-le, div-self, mul-div-right, div-eq-of-lt, pow-suc, pow-succ', div-div-eq-div-mul}
 use native.Mathlib.Decide.{decLt}
-use lib.Bits.{bitOr, bitAnd, or-shr, or-step, and-shr, and-step, shifted-even}
-use lib.Pow.{pow-pos, pow-lt, shl-shr, pow-add, shr-shr}
+use lib.Bits.{bitOr, bitAnd, bitXor, or-shr, or-step, and-shr, and-step, xor-shr, xor-add-and}
+use lib.Pow.{pow-pos, pow-mono, pow-lt, pow-add, shr-shr, shl-exact, field, mod-mod-pow}
+use lib.Dec.{lit<}
 use Rattle.tables.specs.Bits.{bit}
 
 pub bit-lt : (x s : ℕ) → bit x s < 2
@@ -27,6 +28,48 @@ unfolding bit
 bit-and x y s =
     rw (and-shr x y s)
     (let h = and-step (x / 2 ^ s) (y / 2 ^ s) in omega arith)
+
+-- the bits where x and y differ
+pub bit-xor : (x y s : ℕ) → bit (bitXor x y) s ≡ (bit x s + bit y s) % 2
+unfolding bit
+bit-xor x y s =
+    rw (xor-shr x y s)
+    (let h = xor-add-and (x / 2 ^ s) (y / 2 ^ s) in omega arith)
+
+-- the bits of x that y lacks
+pub bit-without : (x y s : ℕ) → bit (bitXor x (bitAnd x y)) s ≡ bit x s - bit y s
+bit-without x y s =
+    let a = bit-xor x (bitAnd x y) s in
+    let b = bit-and x y s in
+    let hx = bit-lt x s in
+    let hy = bit-lt y s in
+    omega arith
+
+-- the bits of a number shifted down
+pub bit-shr : (x k s : ℕ) → bit (x / 2 ^ k) s ≡ bit x (k + s)
+unfolding bit
+bit-shr x k s = rw (shr-shr x k s)
+
+-- the bits of a number's k low digits
+pub bit-mod : (x k s : ℕ) → s < k → bit (x % 2 ^ k) s ≡ bit x s
+unfolding bit
+bit-mod x k s h =
+    let j = k - s - 1 in
+    let e : k ≡ j + 1 + s = omega arith in
+    rw (e, field x (j + 1) s) (mod-mod-pow (x / 2 ^ s) j 1)
+
+-- a number of k digits has no bit from k on
+pub bit-high : (x k s : ℕ) → x < 2 ^ k → k ≤ s → bit x s ≡ 0
+unfolding bit
+bit-high x k s h l = let e : x / 2 ^ s ≡ 0 = div-eq-of-lt (lt-of-lt-of-le h (pow-mono l)) in omega arith
+
+-- so its bits stand below k
+pub bit-in : (x k s : ℕ) → x < 2 ^ k → bit x s ≡ 1 → s < k
+bit-in x k s h e = elim (decLt s k) [ yes l ↦ l | no n ↦ (let z = bit-high x k s h (omega arith) in absurd (omega arith)) ]
+
+-- a number is at least the power of each of its bits
+pub bit-least : (x s : ℕ) → bit x s ≡ 1 → 2 ^ s ≤ x
+bit-least x s e = elim (decLt x (2 ^ s)) [ yes l ↦ (let z = bit-high x s s l (omega arith) in absurd (omega arith)) | no n ↦ omega arith ]
 
 pub bit-pow : (s : ℕ) → bit (2 ^ s) s ≡ 1
 unfolding bit
@@ -71,3 +114,16 @@ bit-ext (suc k) x y hx hy h =
     let e : x / 2 ≡ y / 2 = bit-ext k (x / 2) (y / 2) (omega arith) (omega arith) (λ s hs. bit-half x s ∙ h (suc s) (omega arith) ∙ sym (bit-half y s)) in
     let b : x / 2 ^ 0 % 2 ≡ y / 2 ^ 0 % 2 = h 0 (omega arith) in
     omega arith
+
+-- a number has fewer digits than itself
+lt-pow : (x : ℕ) → x < 2 ^ x
+lt-pow zero = omega arith
+lt-pow (suc x) = omega (arith, lt-pow x, pow-succ' 2 x)
+
+-- two numbers are equal where their bits are
+pub bits-same : (x y : ℕ) → ((s : ℕ) → bit x s ≡ bit y s) → x ≡ y
+bits-same x y h = bit-ext (x + y) x y (omega (arith, lt-pow (x + y))) (omega (arith, lt-pow (x + y))) (λ s l. h s)
+
+-- bit s alone, as a shift of 64 digits makes it
+pub shl-one : (s : ℕ) → s < 64 → 1 * 2 ^ s % 2 ^ 64 ≡ 2 ^ s
+shl-one s h = let e : 1 * 2 ^ s % 2 ^ 64 ≡ 1 * 2 ^ s = shl-exact 1 s 64 (lit< tt) (omega arith) in omega arith

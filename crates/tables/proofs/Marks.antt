@@ -1,20 +1,25 @@
 -- Laws of numbers whose bits are marks: how marks are joined, one more is put, and only one number fits. Assumes nothing.
-use Prim.Native.Nat.{ℕ, zero, suc, _+_, _*_, _^_, _<_, max}
+use Prim.Native.Nat.{ℕ, zero, suc, _+_, _*_, _%_, _^_, _<_}
 use mathlib.Core.Path.{_≡_, sym, ap, _∙_, subst}
 use mathlib.Core.Logic.{_⊎_, inl, inr, ⊎-elim}
 use native.Mathlib.Omega.{arith}
-use native.Mathlib.Decide.{ℕ-discrete}
+use native.Mathlib.Decide.{ℕ-discrete, decLt}
 use mathlib.Core.Bool.{Bool, true, false, cond}
-use native.Mathlib.Nat.{pow-succ', zero-add}
-use lib.Bits.{bitOr, or-shifted-r}
+use native.Mathlib.Nat.{pow-succ', zero-add, mod-lt}
+use lib.Bits.{bitOr, bitAnd, bitXor, or-shifted-r}
+use lib.Pow.{pow-pos}
 use Rattle.tables.specs.Bits.{bit, Marks}
-use Rattle.tables.proofs.Bits.{bit-zero, bit-lt, bit-or, bit-pow, bit-other, bit-ext}
+use Rattle.tables.proofs.Bits.{bit-zero, bit-lt, bit-or, bit-and, bit-without, bit-mod, bit-high, bit-pow, bit-other, bits-same}
 use Rattle.tables.proofs.Choice.{below-or-at}
 use Rattle.tables.proofs.Tests.{Tells}
 
 -- a bit that is not 1 is 0
 pub bit-cases : (x s : ℕ) → (bit x s ≡ 1) ⊎ (bit x s ≡ 0)
 bit-cases x s = let h = bit-lt x s in elim (ℕ-discrete (bit x s) 1) [ yes e ↦ inl e | no n ↦ inr (omega arith) ]
+
+-- a number marks its bits
+pub marks-bits : (x : ℕ) → Marks x (λ (s : ℕ). bit x s ≡ 1)
+marks-bits x = record { put = λ s e. e; only = λ s e. e }
 
 pub marks-none : (P : ℕ → Type 0) → ((s : ℕ) → P s → ⊥) → Marks 0 P
 marks-none P h = record { put = λ s a. absurd (h s a); only = λ s e. let z = bit-zero s in absurd (omega arith) }
@@ -29,6 +34,36 @@ marks-or x y P Q m n =
       only = λ s e. let o = bit-or x y s in elim (bit-cases x s) [ inl h ↦ inl (m .only s h) | inr h ↦ inr (n .only s (omega arith)) ];
     }
 
+-- the marks that x and y both have
+pub marks-and : (x y : ℕ) (P Q : ℕ → Type 0) → Marks x P → Marks y Q → Marks (bitAnd x y) (λ (s : ℕ). P s × Q s)
+marks-and x y P Q m n =
+    record {
+      put = λ s a. let o = bit-and x y s in let e = m .put s (a .0) in let f = n .put s (a .1) in omega arith;
+      only = λ s e. let o = bit-and x y s in let hx = bit-lt x s in let hy = bit-lt y s in (m .only s (omega arith), n .only s (omega arith));
+    }
+
+-- the marks of x that y lacks
+pub marks-without : (x y : ℕ) (P Q : ℕ → Type 0) → Marks x P → Marks y Q → Marks (bitXor x (bitAnd x y)) (λ (s : ℕ). P s × (Q s → ⊥))
+marks-without x y P Q m n =
+    record {
+      put = λ s a. let o = bit-without x y s in let e = m .put s (a .0) in elim (bit-cases y s) [ inl h ↦ absurd (a .1 (n .only s h)) | inr h ↦ omega arith ];
+      only = λ s e. let o = bit-without x y s in let hx = bit-lt x s in (m .only s (omega arith), λ q. let f = n .put s q in omega arith);
+    }
+
+-- a number whose bits all stand below k has k digits
+pub bits-lt : (k x : ℕ) → ((s : ℕ) → bit x s ≡ 1 → s < k) → x < 2 ^ k
+bits-lt k x h = let e = bits-same x (x % 2 ^ k) (λ s. go s (decLt s k)) in let l = mod-lt x (pow-pos k) in omega arith
+  where
+    go : (s : ℕ) → Dec (s < k) → bit x s ≡ bit (x % 2 ^ k) s
+    go s (yes l) = sym (bit-mod x k s l)
+    go s (no n) =
+        let z = bit-high (x % 2 ^ k) k s (mod-lt x (pow-pos k)) (omega arith) in
+        ⊎-elim (λ e. absurd (n (h s e))) (λ e. omega arith) (bit-cases x s)
+
+-- so has one whose marks all stand below k
+pub marks-lt : (k x : ℕ) (P : ℕ → Type 0) → Marks x P → ((s : ℕ) → P s → s < k) → x < 2 ^ k
+marks-lt k x P m h = bits-lt k x (λ s e. h s (m .only s e))
+
 -- one mark alone
 pub marks-one : (s : ℕ) → Marks (2 ^ s) (λ (t : ℕ). t ≡ s)
 marks-one s =
@@ -41,13 +76,9 @@ marks-one s =
 pub marks-with : (x s : ℕ) (P : ℕ → Type 0) → Marks x P → Marks (bitOr x (2 ^ s)) (λ (t : ℕ). P t ⊎ (t ≡ s))
 marks-with x s P m = marks-or x (2 ^ s) P (λ (t : ℕ). t ≡ s) m (marks-one s)
 
-lt-pow : (x : ℕ) → x < 2 ^ x
-lt-pow zero = omega arith
-lt-pow (suc x) = omega (arith, lt-pow x, pow-succ' 2 x)
-
 -- no second number fits
 pub marks-unique : (x y : ℕ) (P : ℕ → Type 0) → Marks x P → Marks y P → x ≡ y
-marks-unique x y P m n = bit-ext (x + y) x y (omega (arith, lt-pow (x + y))) (omega (arith, lt-pow (x + y))) (λ s l. go s (bit-cases x s) (bit-cases y s))
+marks-unique x y P m n = bits-same x y (λ s. go s (bit-cases x s) (bit-cases y s))
   where
     go : (s : ℕ) → (bit x s ≡ 1) ⊎ (bit x s ≡ 0) → (bit y s ≡ 1) ⊎ (bit y s ≡ 0) → bit x s ≡ bit y s
     go s (inl a) b = a ∙ sym (n .put s (m .only s a))

@@ -1,0 +1,69 @@
+-- `answers::plan::look_up` meets its contract. The loop's invariant: `r` is what the first c bytes find. Assumes nothing.
+use Prim.Native.Nat.{_-_, _≤_}
+use mathlib.Core.Path.{_≡_, refl}
+use native.Mathlib.Numerals.{add-one}
+use native.Mathlib.Omega.{arith}
+use Rattle.answers.specs.Plan.{lookUp}
+use Rattle.answers.proofs.plan.look_up.Statement.{statement}
+use Rattle.answers.proofs.plan.look_up.Tie as tie
+
+abbrev Inv-loop : tie.InvT-loop
+Inv-loop table x r₀ c₀ r c = (c ≤ 8) × (r ≡ lookUp table x c)
+
+abbrev μ-loop : tie.MeasureT-loop
+μ-loop table x r₀ c₀ r c = 8 - c
+
+loop-holds : tie.Need-loop-holds Inv-loop μ-loop
+unfolding lookUp
+loop-holds c = (omega arith, refl)
+
+mul-r : tie.Need-mul-r Inv-loop μ-loop
+mul-r c = omega arith
+
+mul-r-2 : tie.Need-mul-r-2 Inv-loop μ-loop
+mul-r-2 c = omega arith
+
+shr-r : tie.Need-shr-r Inv-loop μ-loop
+shr-r c = omega arith
+
+add-r : tie.Need-add-r Inv-loop μ-loop
+add-r c = omega arith
+
+mul-r-3 : tie.Need-mul-r-3 Inv-loop μ-loop
+mul-r-3 c = omega arith
+
+element-copy-out-r : tie.Need-element-copy-out-r Inv-loop μ-loop
+element-copy-out-r c = omega arith
+
+add-c : tie.Need-add-c Inv-loop μ-loop
+add-c c = omega arith
+
+loop-less : tie.Need-loop-less Inv-loop μ-loop
+loop-less c = omega arith
+
+loop-again : tie.Need-loop-again Inv-loop μ-loop
+unfolding lookUp
+loop-again c = let m = c .before .before in (omega arith, rw (add-one (m .loop .c), m .loop .inv .1))
+
+returns : tie.Need-returns Inv-loop μ-loop
+returns c =
+    let e : c .before .loop .c ≡ 8 = omega arith in
+    rw e at (c .before .loop .inv .1)
+
+pub look-up-spec : {M : Type 1} → statement M
+look-up-spec =
+    tie.close
+    (tie.spec
+    Inv-loop
+    μ-loop
+    loop-holds
+    mul-r
+    mul-r-2
+    shr-r
+    add-r
+    mul-r-3
+    element-copy-out-r
+    add-c
+    loop-less
+    loop-again
+    returns)

@@ -1,0 +1,124 @@
+// The two passes over the nodes (docs/RULES.md, "Answers"): from the last node to the first, which steps fit at each node; then from the first to the last, which
+// steps stand there in a whole placement, and the answers.
+ghost use mathlib.Core.Path.{_≡_};
+ghost use mathlib.Core.List.{_++_};
+ghost use Prim.Native.Nat.{ℕ, _+_, _*_, _-_, _≤_, _<_};
+ghost use lib.ListN.{length, getD, drop, set, replicate};
+ghost use Rattle.tables.specs.Bits.{bit};
+ghost use Rattle.answers.specs.Plan.{Says, fitMask, PlanOf};
+ghost use Rattle.answers.specs.Answers.{Found};
+ghost use Rattle.answers.specs.Passes.{Upward, Handed, Marked, Ready};
+ghost use Rattle.placing.specs.Answer.{In, Ascending};
+ghost use Rattle.tables.specs.Document.{ValidDocument};
+ghost use Rattle.tables.specs.Pattern.{Shape, shapeOf, ValidPattern};
+use crate::plan;
+use tables::Pattern;
+
+// Zeros in the first m entries.
+fn clear(work: &mut [u64], m: usize)
+    requires { ⌜ m ≤ length (now work) ⌝ }
+    ensures { λ _. ⌜ now (work .exit) ≡ replicate m 0 ++ drop m (now (work .entry)) ⌝ }
+{
+    let mut k = 0;
+    while k < m {
+        work[k] = 0;
+        k += 1;
+    }
+}
+
+// Node i gets its first entry and the seed; its parent p gathers what fits at i and below it.
+fn hand_up(work: &mut [u64], i: usize, p: usize, fit: u64, below: u64, seed: u64)
+    requires { ⌜ (p < i) × (i < 2048) × (2 * i + 1 < length (now work)) ⌝ }
+    ensures { λ _. ⌜ Handed (now (work .entry)) i p fit below seed (now (work .exit)) ⌝ }
+{
+    work[2 * i] = fit;
+    work[2 * i + 1] = seed;
+    work[2 * p] = work[2 * p] | fit;
+    work[2 * p + 1] = work[2 * p + 1] | fit | below;
+}
+
+// What the parent of node i allows; node 0 has no parent.
+fn above(allowed: &[u64; 2048], parents: &[u16], i: usize) -> u64
+    requires { ⌜ i < length (now parents) ⌝ }
+    requires { ⌜ (0 < i → getD (now parents) i 0 < 2048) ⌝ }
+    ensures none { λ r. ⌜ (i ≡ 0 → r ≡ 0) ⌝ }
+    ensures given { λ r. ⌜ (0 < i → r ≡ getD (now (allowed .entry)) (getD (now (parents .entry)) i 0) 0) ⌝ }
+{
+    if i == 0 {
+        return 0;
+    }
+    allowed[parents[i] as usize]
+}
+
+// Is the list strictly ascending, with every entry below n?
+pub(crate) fn starts_right(starts: &[u16], n: usize) -> bool
+    ensures { λ r. ⌜ Says r (Ascending (now (starts .entry)) × ((k : ℕ) → k < length (now (starts .entry)) → getD (now (starts .entry)) k 0 < n)) ⌝ }
+{
+    let mut k = 0;
+    let mut least: usize = 0;
+    while k < starts.len() {
+        let x = starts[k] as usize;
+        if x < least {
+            return false;
+        }
+        if n <= x {
+            return false;
+        }
+        least = x + 1;
+        k += 1;
+    }
+    true
+}
+
+// Marks the start nodes in a list whose second entries are zero.
+pub(crate) fn mark_starts(starts: &[u16], n: usize, work: &mut [u64])
+    requires { ⌜ (n ≤ 2048) × (2 * n ≤ length (now work)) ⌝ }
+    requires { ⌜ ((k : ℕ) → k < length (now starts) → getD (now starts) k 0 < n) ⌝ }
+    ensures marks { λ _. ⌜ ((i : ℕ) → In (now (starts .entry)) i → Marked (now (work .exit)) i) ⌝ }
+    ensures others { λ _. ⌜ ((q : ℕ) → ((i : ℕ) → In (now (starts .entry)) i → q ≡ 2 * i + 1 → ⊥) → getD (now (work .exit)) q 0 ≡ getD (now (work .entry)) q 0) ⌝ }
+{
+    let mut k = 0;
+    while k < starts.len() {
+        let x = starts[k] as usize;
+        work[2 * x + 1] = 1;
+        k += 1;
+    }
+}
+
+// The turn of node i, past the first, in the first pass: its parent is p and its label l.
+fn turn_up(low: &[u64; 256], high: &[u64; 256], lack: &[u64; 2048], ch: u64, de: u64, l: u16, i: usize, p: usize, seed: u64, work: &mut [u64])
+    requires { ⌜ (p < i) × (i < 2048) × (2 * i + 1 < length (now work)) ⌝ }
+    ensures { λ _. ⌜ Handed (now (work .entry)) i p (fitMask (now (low .entry)) (now (high .entry)) (now (lack .entry)) ch de l (getD (now (work .entry)) (2 * i) 0) (getD (now (work .entry)) (2 * i + 1) 0)) (getD (now (work .entry)) (2 * i + 1) 0) seed (now (work .exit)) ⌝ }
+{
+    let c = work[2 * i];
+    let d = work[2 * i + 1];
+    let fit = plan::fits(low, high, lack, ch, de, l, c, d);
+    hand_up(work, i, p, fit, d, seed);
+}
+
+// The turn of node 0.
+fn turn_root(low: &[u64; 256], high: &[u64; 256], lack: &[u64; 2048], ch: u64, de: u64, l: u16, seed: u64, work: &mut [u64])
+    requires { ⌜ 1 < length (now work) ⌝ }
+    ensures { λ _. ⌜ now (work .exit) ≡ set (set (now (work .entry)) 0 (fitMask (now (low .entry)) (now (high .entry)) (now (lack .entry)) ch de l (getD (now (work .entry)) 0 0) (getD (now (work .entry)) 1 0))) 1 seed ⌝ }
+{
+    let c = work[0];
+    let d = work[1];
+    let fit = plan::fits(low, high, lack, ch, de, l, c, d);
+    work[0] = fit;
+    work[1] = seed;
+}
+
+// All turns of the first pass, over a list whose entries for the nodes are zero.
+fn lift(low: &[u64; 256], high: &[u64; 256], lack: &[u64; 2048], ch: u64, de: u64, parents: &[u16], labels: &[u16], seed: u64, work: &mut [u64])
+    requires { ⌜ ValidDocument (record { parents = now parents; labels = now labels }) ⌝ }
+    requires { ⌜ 2 * length (now parents) ≤ length (now work) ⌝ }
+    requires { ⌜ ((q : ℕ) → q < 2 * length (now parents) → getD (now work) q 0 ≡ 0) ⌝ }
+    ensures { λ _. ⌜ ((A : Shape) → PlanOf A (now (low .entry)) (now (high .entry)) (now (lack .entry)) ch de → Upward A (record { parents = now (parents .entry); labels = now (labels .entry) }) seed 0 (now (work .entry)) (now (work .exit))) ⌝ }
+{
+    let mut i = parents.len();
+    while 1 < i {
+        i -= 1;
+        turn_up(low, high, lack, ch, de, labels[i], i, parents[i] as usize, seed, work);
+    }
+    turn_root(low, high, lack, ch, de, labels[0], seed, work);
+}
