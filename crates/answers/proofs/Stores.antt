@@ -5,7 +5,7 @@ use mathlib.Core.Logic.{_≢_}
 use mathlib.Core.List.{List, _++_}
 use native.Mathlib.Omega.{arith}
 use lib.Bits.{bitOr}
-use lib.ListN.{length, getD, set, drop, replicate, length-set, length-replicate, getD-replicate, List·getD-append}
+use lib.ListN.{length, getD, set, drop, replicate, length-set, length-append, length-drop, length-replicate, getD-replicate, List·getD-append}
 use lib.Seq.{getD-set-same, getD-set-other, getD-append-add, getD-drop}
 use Rattle.answers.specs.Passes.{Handed}
 
@@ -68,6 +68,5 @@ cleared-rest m before q l =
     let z : m + k ≡ q = omega arith in
     ap (λ x. getD (replicate m 0 ++ drop m before) x 0) e ∙ getD-append-add (replicate m 0) (drop m before) k 0 ∙ getD-drop m before k 0 ∙ ap (λ x. getD before x 0) z
 
--- a store at place x of a list
-pub stored-at : (w : List ℕ) (x v : ℕ) → x < length w → (q : ℕ) → q ≡ x → getD (set w x v) q 0 ≡ v
-stored-at w x v l q e = ap (λ y. getD (set w x v) y 0) e ∙ getD-set-same w x v 0 l
+pub cleared-length : (m : ℕ) (before : List ℕ) → m ≤ length before → length (replicate m 0 ++ drop m before) ≡ length before
+cleared-length m before l = length-append (replicate m 0) (drop m before) ∙ omega (arith, length-replicate {A = ℕ} m 0, length-drop m before)

@@ -122,3 +122,21 @@ fn lift(low: &[u64; 256], high: &[u64; 256], lack: &[u64; 2048], ch: u64, de: u6
     }
     turn_root(low, high, lack, ch, de, labels[0], seed, work);
 }
+
+// The first pass: which steps fit at each node, with the seed in every second entry.
+pub(crate) fn rise(p: Pattern, parents: &[u16], labels: &[u16], seed: u64, work: &mut [u64])
+    requires { ⌜ ValidPattern p ⌝ }
+    requires { ⌜ ValidDocument (record { parents = now parents; labels = now labels }) ⌝ }
+    requires { ⌜ 2 * length (now parents) ≤ length (now work) ⌝ }
+    ensures { λ _. ⌜ Upward (shapeOf p) (record { parents = now (parents .entry); labels = now (labels .entry) }) seed 0 (now (work .entry)) (now (work .exit)) ⌝ }
+{
+    let mut low = [0u64; 256];
+    let mut high = [0u64; 256];
+    let mut lack = [0u64; 2048];
+    plan::label_steps(p, &mut low, &mut high);
+    plan::parent_table(p, &mut lack);
+    let ch = plan::axis_steps(p, 0);
+    let de = plan::axis_steps(p, 1);
+    clear(work, 2 * parents.len());
+    lift(&low, &high, &lack, ch, de, parents, labels, seed, work);
+}
