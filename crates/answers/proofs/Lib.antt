@@ -7,6 +7,7 @@ pub mod Fitting
 pub mod NodeFits
 pub mod Upward
 pub mod Downward
+pub mod TurnDown
 pub mod Listed
 pub mod Stores
 pub mod Starts

@@ -3,14 +3,15 @@
 --   Handed     one node's turn in the first pass
 --   Ready      what the second pass starts from
 --   Downward   nodes before k have both entries, and the steps that their child nodes may take
+--   Noted      one node's turn in the answer list
 --   Listed     the answers among the nodes before k stand at the front of the answer list
 use Prim.Native.Nat.{ℕ, _+_, _*_, _≤_, _<_}
 use mathlib.Core.Path.{_≡_}
 use mathlib.Core.Logic.{_⊎_}
 use mathlib.Core.List.{List, _++_}
 use lib.Bits.{bitOr}
-use lib.ListN.{length, getD, drop}
-use Rattle.tables.specs.Bits.{Marks}
+use lib.ListN.{length, getD, drop, set}
+use Rattle.tables.specs.Bits.{bit, Marks}
 use Rattle.tables.specs.Tree.{Child, From}
 use Rattle.tables.specs.Document.{Document, nodeCount, nodesOf}
 use Rattle.tables.specs.Pattern.{Shape}
@@ -74,3 +75,8 @@ pub record Listed (A : Shape) (d : Document) (First : ℕ → Type 0) (k c : ℕ
   pub count : c ≡ length answers
   pub few : c ≤ k
   pub written : list ≡ answers ++ drop c before
+
+-- node i is put at place c of the list where it is an answer, and counted
+pub record Noted (whole output i c : ℕ) (before : List ℕ) (r : ℕ) (after : List ℕ) : Type 0 where
+  pub put : bit whole output ≡ 1 → (r ≡ c + 1) × (after ≡ set before c i)
+  pub skip : (bit whole output ≡ 1 → ⊥) → (r ≡ c) × (after ≡ before)

@@ -78,3 +78,14 @@ pub record PlanOf (A : Shape) (low high lack : List ℕ) (ch de : ℕ) : Type 0 
   pub lacking : Spread (ToParent A) (A .tree .size) lack
   pub child-steps : Marks ch (OfAxis A 0)
   pub descendant-steps : Marks de (OfAxis A 1)
+
+-- the tables of the second pass
+pub record ChildPlan (A : Shape) (kids : List ℕ) (de : ℕ) : Type 0 where
+  pub valid : ValidShape A
+  pub leading : Spread (ToChildren A) (A .tree .size) kids
+  pub descendant-steps : Marks de (OfAxis A 1)
+
+-- what the children of a node may take: what the steps that stand at it lead to, and the descendant steps of what was allowed above
+pub record PassedOn (kids : List ℕ) (whole above de r : ℕ) : Type 0 where
+  pub none : whole ≡ 0 → r ≡ bitAnd above de
+  pub some : (whole ≡ 0 → ⊥) → r ≡ bitOr (lookUp kids whole 8) (bitAnd above de)

@@ -1,13 +1,14 @@
 // The two passes over the nodes (docs/RULES.md, "Answers"): from the last node to the first, which steps fit at each node; then from the first to the last, which
 // steps stand there in a whole placement, and the answers.
 ghost use mathlib.Core.Path.{_≡_};
-ghost use mathlib.Core.List.{_++_};
+ghost use mathlib.Core.List.{List, _++_};
 ghost use Prim.Native.Nat.{ℕ, _+_, _*_, _-_, _≤_, _<_};
 ghost use lib.ListN.{length, getD, drop, set, replicate};
-ghost use Rattle.tables.specs.Bits.{bit};
-ghost use Rattle.answers.specs.Plan.{Says, fitMask, PlanOf};
+ghost use Rattle.tables.specs.Bits.{Marks};
+ghost use Rattle.answers.specs.Plan.{Says, fitMask, PlanOf, ChildPlan, PassedOn};
 ghost use Rattle.answers.specs.Answers.{Found};
-ghost use Rattle.answers.specs.Passes.{Upward, Handed, Marked, Ready};
+ghost use Rattle.answers.specs.Passes.{Upward, Handed, Marked, Ready, Downward, Noted};
+ghost use Rattle.answers.specs.Working.{PlacedAt};
 ghost use Rattle.placing.specs.Answer.{In, Ascending};
 ghost use Rattle.tables.specs.Document.{ValidDocument};
 ghost use Rattle.tables.specs.Pattern.{Shape, shapeOf, ValidPattern};
@@ -139,4 +140,39 @@ pub(crate) fn rise(p: Pattern, parents: &[u16], labels: &[u16], seed: u64, work:
     let de = plan::axis_steps(p, 1);
     clear(work, 2 * parents.len());
     lift(&low, &high, &lack, ch, de, parents, labels, seed, work);
+}
+
+// What the children of a node may take, where `whole` stands at the node and `over` was allowed to it.
+fn pass_on(kids: &[u64; 2048], whole: u64, over: u64, de: u64) -> u64
+    ensures { λ r. ⌜ PassedOn (now (kids .entry)) whole over de r ⌝ }
+{
+    if whole == 0 {
+        return over & de;
+    }
+    plan::look_up(kids, whole) | (over & de)
+}
+
+// Node i in the answer list: put at place c and counted where it is an answer.
+fn note(list: &mut [u16], c: usize, i: usize, whole: u64, output: usize) -> usize
+    requires { ⌜ (c < length (now list)) × (c < 65536) × (i < 65536) × (output < 64) ⌝ }
+    ensures { λ r. ⌜ Noted whole output i c (now (list .entry)) r (now (list .exit)) ⌝ }
+{
+    if plan::has_bit(whole, output) {
+        list[c] = i as u16;
+        return c + 1;
+    }
+    c
+}
+
+// The turn of node i in the second pass: the steps that stand there in a whole placement.
+fn turn_down(kids: &[u64; 2048], de: u64, parents: &[u16], i: usize, work: &mut [u64], allowed: &mut [u64; 2048]) -> u64
+    requires { ⌜ (i < length (now parents)) × (i < 2048) × (2 * i + 1 < length (now work)) × (length (now allowed) ≡ 2048) ⌝ }
+    requires { ⌜ (0 < i → getD (now parents) i 0 < i) ⌝ }
+    ensures { λ r. ⌜ ((A : Shape) (labels before : List ℕ) → ValidDocument (record { parents = now (parents .entry); labels = labels }) → ChildPlan A (now (kids .entry)) de → Downward A (record { parents = now (parents .entry); labels = labels }) (Marked before) i before (now (work .entry)) (now (allowed .entry)) → Downward A (record { parents = now (parents .entry); labels = labels }) (Marked before) (i + 1) before (now (work .exit)) (now (allowed .exit)) × Marks r (PlacedAt A (record { parents = now (parents .entry); labels = labels }) (Marked before) i)) ⌝ }
+{
+    let over = above(allowed, parents, i);
+    let whole = work[2 * i] & (over | work[2 * i + 1]);
+    work[2 * i + 1] = whole;
+    allowed[i] = pass_on(kids, whole, over, de);
+    whole
 }
