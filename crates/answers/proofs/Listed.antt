@@ -4,19 +4,20 @@ use mathlib.Core.Path.{_≡_, refl, sym, ap, _∙_, subst}
 use mathlib.Core.Logic.{_⊎_, inl, inr, ⊎-elim, _↔_}
 use mathlib.Core.List.{List, [], _∷_, _++_}
 use native.Mathlib.Omega.{arith}
-use lib.ListN.{length, getD, drop, set, length-append}
+use native.Mathlib.Numerals.{add-one}
+use lib.ListN.{length, getD, drop, set, length-append, length-set}
 use Rattle.tables.specs.Bits.{bit, Marks}
 use Rattle.tables.specs.Document.{Document, nodeCount, nodesOf}
 use Rattle.tables.specs.Pattern.{Shape, ValidShape}
 use Rattle.tables.proofs.Choice.{below-or-at}
 use Rattle.tables.proofs.Columns.{put-next}
-use Rattle.tables.proofs.Marks.{marks-one, marks-none, marks-to}
+use Rattle.tables.proofs.Marks.{bit-cases, marks-one, marks-none, marks-to}
 use Rattle.placing.specs.Placement.{Reaches}
 use Rattle.placing.specs.Answer.{Started, Lists}
 use Rattle.placing.proofs.Listing.{lists-none, lists-more, lists-iff}
 use Rattle.answers.specs.Working.{PlacedAt, Working}
 use Rattle.answers.specs.Answers.{Found}
-use Rattle.answers.specs.Passes.{Marked, Ready, Downward, Listed}
+use Rattle.answers.specs.Passes.{Marked, Ready, Downward, Listed, Noted}
 
 -- where two ways to say the start agree on the nodes, placements agree
 pub reaches-first : (A : Shape) (d : Document) (First Other : ℕ → Type 0) → ValidShape A → ((i : ℕ) → i < nodeCount d → First i → Other i) → (s i : ℕ)
@@ -113,3 +114,23 @@ module _ (A : Shape) (d : Document) (First : ℕ → Type 0) (va : ValidShape A)
     written = h .written;
     working = record { same-length = u .same-length; fits = u .fits; placed = u .placed; rest = u .rest };
   }
+
+  -- a node's turn in the answer list
+  pub listed-noted : (whole output i c r : ℕ) (before list list′ : List ℕ) → A .output ≡ output → Marks whole (PlacedAt A d First i) → Noted whole output i c list r list′ → c < length before
+      → Listed A d First i c before list → Listed A d First (i + 1) r before list′
+  listed-noted whole output i c r before list list′ o m n l h = rw (add-one i) (go (bit-cases whole output))
+    where
+      go : (bit whole output ≡ 1) ⊎ (bit whole output ≡ 0) → Listed A d First (suc i) r before list′
+      go (inl b) = rw (n .put b .0, n .put b .1) (listed-put i c before list h (subst (λ (s : ℕ). Reaches A (nodesOf d) First s i) (sym o) (m .only output b .1)) l)
+      go (inr b) =
+          let no-bit : bit whole output ≡ 1 → ⊥ = λ e. omega arith in
+          rw (n .skip no-bit .0, n .skip no-bit .1)
+          (listed-skip i c before list h (λ a. no-bit (m .put output (subst (λ (s : ℕ). (s < A .tree .size) × Reaches A (nodesOf d) First s i) o (va .output, a)))))
+
+-- a turn puts at most one entry
+pub noted-few : (whole output i c r : ℕ) (list list′ : List ℕ) → Noted whole output i c list r list′ → (r ≤ c + 1) × (length list′ ≡ length list)
+noted-few whole output i c r list list′ n = go (bit-cases whole output)
+  where
+    go : (bit whole output ≡ 1) ⊎ (bit whole output ≡ 0) → (r ≤ c + 1) × (length list′ ≡ length list)
+    go (inl b) = (omega (arith, n .put b .0), ap length (n .put b .1) ∙ length-set list c i)
+    go (inr b) = let s = n .skip (λ e. omega arith) in (omega (arith, s .0), ap length (s .1))

@@ -168,11 +168,45 @@ fn note(list: &mut [u16], c: usize, i: usize, whole: u64, output: usize) -> usiz
 fn turn_down(kids: &[u64; 2048], de: u64, parents: &[u16], i: usize, work: &mut [u64], allowed: &mut [u64; 2048]) -> u64
     requires { ⌜ (i < length (now parents)) × (i < 2048) × (2 * i + 1 < length (now work)) × (length (now allowed) ≡ 2048) ⌝ }
     requires { ⌜ (0 < i → getD (now parents) i 0 < i) ⌝ }
-    ensures { λ r. ⌜ ((A : Shape) (labels before : List ℕ) → ValidDocument (record { parents = now (parents .entry); labels = labels }) → ChildPlan A (now (kids .entry)) de → Downward A (record { parents = now (parents .entry); labels = labels }) (Marked before) i before (now (work .entry)) (now (allowed .entry)) → Downward A (record { parents = now (parents .entry); labels = labels }) (Marked before) (i + 1) before (now (work .exit)) (now (allowed .exit)) × Marks r (PlacedAt A (record { parents = now (parents .entry); labels = labels }) (Marked before) i)) ⌝ }
+    ensures sizes { λ _. ⌜ (length (now (work .exit)) ≡ length (now (work .entry))) × (length (now (allowed .exit)) ≡ length (now (allowed .entry))) ⌝ }
+    ensures turn { λ r. ⌜ ((A : Shape) (labels before : List ℕ) → ValidDocument (record { parents = now (parents .entry); labels = labels }) → ChildPlan A (now (kids .entry)) de → Downward A (record { parents = now (parents .entry); labels = labels }) (Marked before) i before (now (work .entry)) (now (allowed .entry)) → Downward A (record { parents = now (parents .entry); labels = labels }) (Marked before) (i + 1) before (now (work .exit)) (now (allowed .exit)) × Marks r (PlacedAt A (record { parents = now (parents .entry); labels = labels }) (Marked before) i)) ⌝ }
 {
     let over = above(allowed, parents, i);
     let whole = work[2 * i] & (over | work[2 * i + 1]);
     work[2 * i + 1] = whole;
     allowed[i] = pass_on(kids, whole, over, de);
     whole
+}
+
+// All turns of the second pass, with the tables of the pattern whose output step is `output`.
+fn lower(kids: &[u64; 2048], de: u64, output: usize, parents: &[u16], work: &mut [u64], list: &mut [u16]) -> usize
+    requires { ⌜ (output < 64) × (length (now parents) ≤ 2048) × (2 * length (now parents) ≤ length (now work)) × (length (now parents) ≤ length (now list)) ⌝ }
+    requires { ⌜ ((i : ℕ) → 0 < i → i < length (now parents) → getD (now parents) i 0 < i) ⌝ }
+    ensures { λ r. ⌜ ((A : Shape) (labels : List ℕ) → ValidDocument (record { parents = now (parents .entry); labels = labels }) → ChildPlan A (now (kids .entry)) de → A .output ≡ output → Ready A (record { parents = now (parents .entry); labels = labels }) (now (work .entry)) → Found A (record { parents = now (parents .entry); labels = labels }) (Marked (now (work .entry))) (now (list .entry)) (now (work .entry)) r (now (list .exit)) (now (work .exit))) ⌝ }
+{
+    let mut allowed = [0u64; 2048];
+    let n = parents.len();
+    let mut c = 0;
+    let mut i = 0;
+    while i < n {
+        let whole = turn_down(kids, de, parents, i, work, &mut allowed);
+        c = note(list, c, i, whole, output);
+        i += 1;
+    }
+    c
+}
+
+// The second pass: which steps stand at each node in a whole placement, and the answers. A second entry of 1 marks a start node.
+pub(crate) fn descend(p: Pattern, parents: &[u16], labels: &[u16], work: &mut [u64], list: &mut [u16]) -> usize
+    requires { ⌜ ValidPattern p ⌝ }
+    requires { ⌜ ValidDocument (record { parents = now parents; labels = now labels }) ⌝ }
+    requires { ⌜ length (now parents) ≤ length (now list) ⌝ }
+    requires { ⌜ Ready (shapeOf p) (record { parents = now parents; labels = now labels }) (now work) ⌝ }
+    ensures { λ r. ⌜ Found (shapeOf p) (record { parents = now (parents .entry); labels = now (labels .entry) }) (Marked (now (work .entry))) (now (list .entry)) (now (work .entry)) r (now (list .exit)) (now (work .exit)) ⌝ }
+{
+    let mut kids = [0u64; 2048];
+    plan::child_table(p, &mut kids);
+    let de = plan::axis_steps(p, 1);
+    let output = p.output.0 as usize;
+    lower(&kids, de, output, parents, work, list)
 }
