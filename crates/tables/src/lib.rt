@@ -1,6 +1,13 @@
 // The kinds of number, the pattern table and the refusals that every call speaks of (docs/RULES.md, "Tables" and "Refusals").
 // A document is lent as two lists of 16-bit numbers and has no type of its own.
 
+ghost use Prim.Native.Nat.{ℕ, _<_};
+ghost use mathlib.Core.Logic.{_↔_};
+ghost use lib.ListN.{length, getD};
+ghost use lib.Dec.{T};
+ghost use Rattle.tables.specs.Tree.{Tree, Hangs};
+ghost use Rattle.tables.specs.Checks.{ChecksDocument};
+
 // The number of a step in a pattern.
 pub struct StepNo(pub u8);
 
@@ -39,4 +46,49 @@ pub enum Checked {
 pub enum Counted {
     Count(usize),
     Refused(Refusal),
+}
+
+// Does node i hang on the node before it or on an ancestor of that, given that every node before it hangs right? The climb from node i - 1 ends at the
+// parent of node i, or passes it.
+fn node_hangs(parents: &[u16], i: usize) -> bool
+    requires { ⌜ i < length (now parents) ⌝ }
+    requires { ⌜ ((k : ℕ) → k < i → Hangs (record { size = length (now parents); parent = λ j. getD (now parents) j 0 }) 65535 k) ⌝ }
+    ensures { λ r. ⌜ T r ↔ Hangs (record { size = length (now (parents .entry)); parent = λ j. getD (now (parents .entry)) j 0 }) 65535 i ⌝ }
+{
+    let p = parents[i] as usize;
+    if i == 0 {
+        return p == 65535;
+    }
+    let mut a = i - 1;
+    while p < a {
+        a = parents[a] as usize;
+    }
+    a == p
+}
+
+// Right exactly where the two lists are a document that obeys the rules; else refused by BadDocument.
+pub fn check_document(parents: &[u16], labels: &[u16]) -> Checked
+    ensures { λ r. ⌜ ChecksDocument (record { parents = now (parents .entry); labels = now (labels .entry) }) r ⌝ }
+{
+    let n = parents.len();
+    if n == 0 {
+        return Checked::Refused(Refusal::BadDocument);
+    }
+    if 2048 < n {
+        return Checked::Refused(Refusal::BadDocument);
+    }
+    if labels.len() != n {
+        return Checked::Refused(Refusal::BadDocument);
+    }
+    let mut i = 0;
+    while i < n {
+        if labels[i] == 0 {
+            return Checked::Refused(Refusal::BadDocument);
+        }
+        if !node_hangs(parents, i) {
+            return Checked::Refused(Refusal::BadDocument);
+        }
+        i += 1;
+    }
+    Checked::Right
 }
