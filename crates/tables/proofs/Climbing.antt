@@ -3,11 +3,17 @@
 use Prim.Native.Nat.{ℕ, zero, suc, _-_, _≤_, _<_}
 use mathlib.Core.Path.{_≡_, refl, sym, subst}
 use mathlib.Core.Logic.{inl, inr, ⊎-elim, _↔_}
+use mathlib.Core.List.{List}
 use native.Mathlib.Omega.{arith}
+use lib.ListN.{length, getD}
 use lib.Dec.{T, eqb}
 use Rattle.tables.specs.Tree.{Tree, Child, child, From, Hangs}
 use Rattle.tables.proofs.Trees.{below-lt-to, parent-lt-to, below-up, from-trans}
 use Rattle.tables.proofs.Tests.{Tells, tells-eq}
+
+-- the tree whose parents stand in a list
+abbrev pub listed : List ℕ → Tree
+listed ps = record { size = length ps; parent = λ j. getD ps j 0 }
 
 -- the climb for row i stands at row a: on the way up from row i - 1, and not past the parent of row i if that is on the way
 pub record Climbs (D : Tree) (i a : ℕ) : Type 0 where

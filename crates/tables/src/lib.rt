@@ -6,7 +6,7 @@ ghost use mathlib.Core.Logic.{_↔_};
 ghost use lib.ListN.{length, getD};
 ghost use lib.Dec.{T};
 ghost use Rattle.tables.specs.Tree.{Tree, Hangs};
-ghost use Rattle.tables.specs.Checks.{ChecksDocument};
+ghost use Rattle.tables.specs.Checks.{ChecksDocument, ChecksPattern};
 
 // The number of a step in a pattern.
 pub struct StepNo(pub u8);
@@ -89,6 +89,55 @@ pub fn check_document(parents: &[u16], labels: &[u16]) -> Checked
             return Checked::Refused(Refusal::BadDocument);
         }
         i += 1;
+    }
+    Checked::Right
+}
+
+// The same for step s: `parents` has an entry for each step of the pattern.
+fn step_hangs(parents: &[u8], s: usize) -> bool
+    requires { ⌜ s < length (now parents) ⌝ }
+    requires { ⌜ ((k : ℕ) → k < s → Hangs (record { size = length (now parents); parent = λ j. getD (now parents) j 0 }) 255 k) ⌝ }
+    ensures { λ r. ⌜ T r ↔ Hangs (record { size = length (now (parents .entry)); parent = λ j. getD (now (parents .entry)) j 0 }) 255 s ⌝ }
+{
+    let p = parents[s] as usize;
+    if s == 0 {
+        return p == 255;
+    }
+    let mut a = s - 1;
+    while p < a {
+        a = parents[a] as usize;
+    }
+    a == p
+}
+
+// Right exactly where the pattern obeys the rules; else refused by BadPattern.
+pub fn check_pattern(p: Pattern) -> Checked
+    ensures { λ r. ⌜ ChecksPattern p r ⌝ }
+{
+    let n = p.count;
+    if n == 0 {
+        return Checked::Refused(Refusal::BadPattern);
+    }
+    if 64 < n {
+        return Checked::Refused(Refusal::BadPattern);
+    }
+    let output = p.output.0 as usize;
+    if n <= output {
+        return Checked::Refused(Refusal::BadPattern);
+    }
+    let parents = p.parent;
+    let mut s = 0;
+    while s < n {
+        if 1 < p.axis[s] {
+            return Checked::Refused(Refusal::BadPattern);
+        }
+        if p.label[s] == 0 {
+            return Checked::Refused(Refusal::BadPattern);
+        }
+        if !step_hangs(&parents[..n], s) {
+            return Checked::Refused(Refusal::BadPattern);
+        }
+        s += 1;
     }
     Checked::Right
 }

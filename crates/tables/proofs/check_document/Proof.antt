@@ -13,9 +13,6 @@ use Rattle.tables.proofs.Tests.{passed, failed}
 use Rattle.tables.specs.Document.{Document, NodeRule, ValidDocument}
 use Rattle.tables.proofs.check_document.Statement.{statement}
 use Rattle.tables.proofs.check_document.Tie as tie
-use Rattle.tables.proofs.check_document.Reads as reads
-use Rattle.tables.proofs.check_document.Lts as lts
-use Rattle.tables.proofs.node_hangs.Reads as node-hangs-reads
 
 abbrev Inv-loop : tie.InvT-loop
 Inv-loop parents labels n i₀ i = (i ≤ n) × ((k : ℕ) → k < i → NodeRule (record { parents = parents; labels = labels }) k)
@@ -23,53 +20,41 @@ Inv-loop parents labels n i₀ i = (i ≤ n) × ((k : ℕ) → k < i → NodeRul
 abbrev μ-loop : tie.MeasureT-loop
 μ-loop parents labels n i₀ i = n - i
 
--- src/lib.rt:75:9
 returns : tie.Need-returns Inv-loop μ-loop
 returns c = refused (λ v. omega arith)
 
--- src/lib.rt:78:9
 returns-2 : tie.Need-returns-2 Inv-loop μ-loop
 returns-2 c = refused (λ v. omega arith)
 
--- src/lib.rt:81:9
 returns-3 : tie.Need-returns-3 Inv-loop μ-loop
 returns-3 c = refused (λ v. omega arith)
 
--- src/lib.rt:84:5
 loop-holds : tie.Need-loop-holds Inv-loop μ-loop
 loop-holds c = (omega arith, λ k l. absurd (omega arith))
 
--- src/lib.rt:85:12
 mul-if4 : tie.Need-mul-if4 Inv-loop μ-loop
 mul-if4 c = search needs
 
--- src/lib.rt:85:12
 shared-slice-read-if4 : tie.Need-shared-slice-read-if4 Inv-loop μ-loop
 shared-slice-read-if4 c = search needs
 
--- src/lib.rt:86:13
 returns-4 : tie.Need-returns-4 Inv-loop μ-loop
 returns-4 c = refused (λ v. omega (arith, v .nodes (c .before .before .before .loop .i) (omega arith) .label .least))
 
--- src/lib.rt:88:13
 node-hangs-requires : tie.Need-node-hangs-requires Inv-loop μ-loop
 node-hangs-requires c κs = (omega arith, λ k l. c .before .before .before .loop .inv .1 k l .hangs)
 
--- src/lib.rt:89:13
 returns-5 : tie.Need-returns-5 Inv-loop μ-loop
 returns-5 c =
     let h = c .before .node-hangs in
     refused (λ v. failed (h .result) (c .if5 .taken) (h .ensures .1 (v .nodes (c .before .before .before .before .before .loop .i) (omega arith) .hangs)))
 
--- src/lib.rt:91:9
 add-i : tie.Need-add-i Inv-loop μ-loop
 add-i c = search needs
 
--- src/lib.rt:84:5
 loop-less : tie.Need-loop-less Inv-loop μ-loop
 loop-less c = search needs
 
--- src/lib.rt:84:5
 loop-again : tie.Need-loop-again Inv-loop μ-loop
 loop-again c =
     let h = c .before .node-hangs in
@@ -78,7 +63,6 @@ loop-again c =
     let most = x .shared-slice-known3 .given (l .i) in
     (omega arith, below-more _ _ (l .inv .1) (record { hangs = h .ensures .0 (passed (h .result) (c .if5 .left)); label = record { least = omega arith; most = omega arith } }))
 
--- src/lib.rt:70:1
 returns-6 : tie.Need-returns-6 Inv-loop μ-loop
 returns-6 c =
     ((record { some = omega arith; few = omega arith; equal = omega arith; nodes = λ i l. c .before .loop .inv .1 i (omega arith) }, tt), tt)

@@ -1,81 +1,60 @@
 -- `tables::node_hangs` meets its contract: the loop is the climb of Climbing. Assumes nothing.
-use Prim.Native.Nat.{ℕ}
-use mathlib.Core.List.{List}
 use native.Mathlib.Omega.{arith}
-use lib.ListN.{length, getD}
 use denote.Ref.{now}
 use borrow.Author.Needs.{needs}
-use Rattle.tables.specs.Tree.{Tree}
-use Rattle.tables.proofs.Climbing.{Climbs, first-hangs, climb-falls, climb-starts, climb-goes, climb-ends}
+use Rattle.tables.proofs.Climbing.{listed, Climbs, first-hangs, climb-falls, climb-starts, climb-goes, climb-ends}
 use Rattle.tables.proofs.node_hangs.Statement.{statement}
 use Rattle.tables.proofs.node_hangs.Tie as tie
-use Rattle.tables.proofs.node_hangs.Reads as reads
-use Rattle.tables.proofs.node_hangs.Lts as lts
-
-abbrev rows : List ℕ → Tree
-rows ps = record { size = length ps; parent = λ j. getD ps j 0 }
 
 abbrev Inv-loop : tie.InvT-loop
-Inv-loop parents i p a₀ a = Climbs (rows parents) i a
+Inv-loop parents i p a₀ a = Climbs (listed parents) i a
 
 abbrev μ-loop : tie.MeasureT-loop
 μ-loop parents i p a₀ a = a
 
--- src/lib.rt:58:13
 mul-p : tie.Need-mul-p Inv-loop μ-loop
 mul-p c = search needs
 
--- src/lib.rt:58:13
 shared-slice-read-p : tie.Need-shared-slice-read-p Inv-loop μ-loop
 shared-slice-read-p c = search needs
 
--- src/lib.rt:58:13
 cast-p : tie.Need-cast-p Inv-loop μ-loop
 cast-p c = omega (arith, c .shared-slice-known .given (c .before .args .i))
 
--- src/lib.rt:60:9
 returns : tie.Need-returns Inv-loop μ-loop
-returns c = first-hangs (rows (now (c .before .before .args .parents))) 65535 (c .before .before .args .i) (omega arith)
+returns c = first-hangs (listed (now (c .before .before .args .parents))) 65535 (c .before .before .args .i) (omega arith)
 
--- src/lib.rt:62:17
 sub-a : tie.Need-sub-a Inv-loop μ-loop
 sub-a c = search needs
 
--- src/lib.rt:63:5
 loop-holds : tie.Need-loop-holds Inv-loop μ-loop
 loop-holds c =
     let s = c .before .before in
-    climb-starts (rows (now (s .args .parents))) 65535 (s .args .i) (omega arith) (s .pre .0) (s .pre .1)
+    climb-starts (listed (now (s .args .parents))) 65535 (s .args .i) (omega arith) (s .pre .0) (s .pre .1)
 
--- src/lib.rt:64:13
 mul-a : tie.Need-mul-a Inv-loop μ-loop
 mul-a c = search needs
 
--- src/lib.rt:64:13
 shared-slice-read-a : tie.Need-shared-slice-read-a Inv-loop μ-loop
 shared-slice-read-a c = search needs
 
--- src/lib.rt:64:13
 cast-a : tie.Need-cast-a Inv-loop μ-loop
 cast-a c = omega (arith, c .shared-slice-known2 .given (c .before .before .loop .a))
 
--- src/lib.rt:63:5
 loop-less : tie.Need-loop-less Inv-loop μ-loop
 loop-less c =
     let s = c .before .before .before .before .before in
-    climb-falls (rows (now (s .args .parents))) 65535 (s .args .i) (omega arith) (s .pre .0) (s .pre .1) (c .before .before .loop .a) (omega arith) (omega arith)
+    climb-falls (listed (now (s .args .parents))) 65535 (s .args .i) (omega arith) (s .pre .0) (s .pre .1) (c .before .before .loop .a) (omega arith) (omega arith)
 
--- src/lib.rt:63:5
 loop-again : tie.Need-loop-again Inv-loop μ-loop
 loop-again c =
     let s = c .before .before .before .before .before in
-    climb-goes (rows (now (s .args .parents))) 65535 (s .args .i) (omega arith) (s .pre .0) (s .pre .1) (c .before .before .loop .inv) (c .before .loop-test .taken)
+    climb-goes (listed (now (s .args .parents))) 65535 (s .args .i) (omega arith) (s .pre .0) (s .pre .1) (c .before .before .loop .inv) (c .before .loop-test .taken)
 
--- src/lib.rt:53:1
 returns-2 : tie.Need-returns-2 Inv-loop μ-loop
 returns-2 c =
     let s = c .before .before .before .before in
-    climb-ends (rows (now (s .args .parents))) 65535 (s .args .i) (omega arith) (s .pre .0) (s .pre .1) (c .before .loop .inv) (c .loop-test .left)
+    climb-ends (listed (now (s .args .parents))) 65535 (s .args .i) (omega arith) (s .pre .0) (s .pre .1) (c .before .loop .inv) (c .loop-test .left)
 
 pub node-hangs-spec : {M : Type 1} → statement M
 node-hangs-spec =
