@@ -1,12 +1,13 @@
 -- Laws of blocks, of columns and of arrays that are zero past their first entries. Assumes nothing.
 use Prim.Native.Nat.{ℕ, zero, suc, _+_, _*_, _-_, _≤_, _<_}
 use mathlib.Core.Path.{_≡_, refl, sym, ap, ap₂, _∙_, subst}
-use mathlib.Core.List.{List, [], _∷_, _++_}
+use mathlib.Core.List.{List, [], _∷_, _++_, append-assoc}
 use native.Mathlib.Omega.{arith}
 use native.Mathlib.Nat.{zero-mul, suc-mul}
 use native.Mathlib.Decide.{decLt}
-use lib.ListN.{length, getD, drop, replicate, length-append, length-drop, length-replicate, getD-replicate, List·getD-append, List·getD-eq-default}
-use lib.Seq.{getD-append-add, getD-drop, ext-getD}
+use native.Mathlib.Numerals.{add-one}
+use lib.ListN.{length, getD, set, drop, replicate, length-append, length-drop, length-replicate, getD-replicate, List·getD-append, List·getD-eq-default}
+use lib.Seq.{getD-append-add, getD-drop, drop-cons, set-at, ext-getD}
 use Rattle.tables.specs.Column.{blocks, column, padded}
 use Rattle.tables.proofs.Choice.{below-or-at}
 
@@ -51,6 +52,17 @@ column-ext f g n h = blocks-ext (λ k. f k ∷ []) (λ k. g k ∷ []) n (λ k l.
 pub column-self : (xs : List ℕ) → column (λ k. getD xs k 0) (length xs) ≡ xs
 column-self xs = ext-getD 0 (column (λ k. getD xs k 0) (length xs)) xs (column-length (λ k. getD xs k 0) (length xs))
     (λ k l. column-at (λ k. getD xs k 0) (length xs) k (omega (arith, column-length (λ k. getD xs k 0) (length xs))))
+
+-- one entry more of a list that is written from the front
+pub put-next : (xs d : List ℕ) (m v : ℕ) → length xs ≡ m → m < length d → set (xs ++ drop m d) m v ≡ (xs ++ (v ∷ [])) ++ drop (m + 1) d
+put-next xs d m v e l = rw (add-one, drop-cons d m 0, set-at xs (getD d m 0) (drop (suc m) d) v m e, append-assoc)
+
+pub column-next : (f : ℕ → ℕ) (d : List ℕ) (k v : ℕ) → k < length d → v ≡ f k → set (column f k ++ drop k d) k v ≡ column f (k + 1) ++ drop (k + 1) d
+unfolding blocks
+column-next f d k v l e = put-next (column f k) d k v (column-length f k) l ∙ rw (add-one, e)
+
+pub padded-next : (f : ℕ → ℕ) (xs : List ℕ) (k v : ℕ) → k < 64 → v ≡ f k → xs ≡ padded f k → set xs k v ≡ padded f (k + 1)
+padded-next f xs k v l e g = rw g (column-next f (replicate 64 0) k v l e)
 
 pub padded-at : (f : ℕ → ℕ) (n k : ℕ) → k < n → getD (padded f n) k 0 ≡ f k
 padded-at f n k l = List·getD-append (column f n) (drop n (replicate 64 0)) 0 k (omega (arith, column-length f n)) ∙ column-at f n k l

@@ -2,10 +2,12 @@
 // A document is lent as two lists of 16-bit numbers and has no type of its own.
 
 ghost use Prim.Native.Nat.{ℕ, _<_};
+ghost use mathlib.Core.Path.{_≡_};
 ghost use mathlib.Core.Logic.{_↔_};
 ghost use lib.ListN.{length, getD};
 ghost use lib.Dec.{T};
 ghost use Rattle.tables.specs.Tree.{Tree, Hangs};
+ghost use Rattle.tables.specs.Pattern.{zeroPattern};
 ghost use Rattle.tables.specs.Checks.{ChecksDocument, ChecksPattern};
 
 // The number of a step in a pattern.
@@ -46,6 +48,19 @@ pub enum Checked {
 pub enum Counted {
     Count(usize),
     Refused(Refusal),
+}
+
+// The pattern beside a refusal or "none": nothing but zeros.
+pub fn no_pattern() -> Pattern
+    ensures { λ r. ⌜ r ≡ zeroPattern ⌝ }
+{
+    Pattern {
+        parent: [0u8; 64],
+        axis: [0u8; 64],
+        label: [0u16; 64],
+        count: 0,
+        output: StepNo(0),
+    }
 }
 
 // Does node i hang on the node before it or on an ancestor of that, given that every node before it hangs right? The climb from node i - 1 ends at the

@@ -1,0 +1,58 @@
+-- The checks of a packet, from those of its header, which both kinds of packet share, and those of its table. Assumes nothing.
+use Prim.Native.Nat.{ℕ, _+_, _*_, _/_, _≤_}
+use mathlib.Core.Path.{_≡_, sym, subst}
+use mathlib.Core.Logic.{_↔_}
+use mathlib.Core.List.{List, [], _∷_, _++_}
+use native.Mathlib.Omega.{arith}
+use lib.ListN.{length, take}
+use Rattle.tables.specs.Pattern.{shapeOf, patternOf, ValidShape, ValidPattern}
+use Rattle.tables.specs.Refusal.{Check, Passes, Refuses, CountedBy}
+use Rattle.tables.specs.declared.Pattern.{Pattern}
+use Rattle.tables.specs.declared.Counted.{Counted}
+use Rattle.tables.specs.declared.Refusal.{Refusal}
+use Rattle.tables.specs.declared.Refusal.the-variants.{Length, BadPattern}
+use Rattle.tables.proofs.Agreement.{valid-agree}
+use Rattle.tables.proofs.Outcomes.{front-refuses, rest-refuses, rest-passes}
+use Rattle.tables.proofs.Rules.{pattern-of-shape, agree-sym}
+use Rattle.packets.specs.Bytes.{half}
+use Rattle.packets.specs.PatternPacket.{packetShape, PatternSized, patternChecks}
+
+-- the length field stands for a number of rows, `most` at most, after `extra` bytes, and agrees with the bytes present
+abbrev pub RowsIn : List ℕ → ℕ → ℕ → Type 0
+RowsIn bs extra most = (n : ℕ) × (1 ≤ n) × (n ≤ most) × (half bs 1 ≡ extra + 4 * n) × (length bs ≡ half bs 1 + 3)
+
+-- what the header of a packet is checked for
+abbrev pub headChecks : List ℕ → ℕ → ℕ → List Check
+headChecks bs extra most = take 2 (patternChecks bs) ++ (record { asks = RowsIn bs extra most; gives = Length } ∷ [])
+
+-- what `rows_in` answers
+abbrev pub Headed : List ℕ → ℕ → ℕ → Counted → Type 0
+Headed bs extra most r = CountedBy (headChecks bs extra most) r (λ n. n ≡ half bs 1 / 4) (Unit {0})
+
+pattern-rows : (bs : List ℕ) → RowsIn bs 1 64 ↔ ((n : ℕ) × PatternSized bs n)
+pattern-rows bs = (
+  λ z. (z .0, record { some = z .1; few = z .2; field = z .3; present = omega (arith, z .3, z .4) }),
+  λ z. (z .0, z .1 .some, z .1 .few, z .1 .field, omega (arith, z .1 .field, z .1 .present)),
+)
+
+-- a pattern that was built from a shape obeys the rules exactly if that shape does
+shape-valid : (bs : List ℕ) (p : Pattern) → p ≡ patternOf (packetShape bs) → ValidPattern p ↔ ValidShape (packetShape bs)
+shape-valid bs p e = (
+  λ v. valid-agree (pattern-of-shape (packetShape bs)) (subst ValidPattern e v),
+  λ v. subst ValidPattern (sym e) (valid-agree (agree-sym (pattern-of-shape (packetShape bs))) v),
+)
+
+module _ (bs : List ℕ) where
+  -- the last check of a pattern packet, in the packet's terms
+  abbrev shapeRule : List Check
+  shapeRule = record { asks = ValidShape (packetShape bs); gives = BadPattern } ∷ []
+
+  pub pattern-head-refuses : (r : Refusal) → Refuses (headChecks bs 1 64) r → Refuses (patternChecks bs) r
+  pattern-head-refuses r = front-refuses (pattern-rows bs) Length shapeRule (take 2 (patternChecks bs)) r
+
+  module _ (p : Pattern) (e : p ≡ patternOf (packetShape bs)) (h : Passes (headChecks bs 1 64)) where
+    pub pattern-rules-refuse : (r : Refusal) → Refuses (record { asks = ValidPattern p; gives = BadPattern } ∷ []) r → Refuses (patternChecks bs) r
+    pattern-rules-refuse r w = rest-refuses (pattern-rows bs) Length shapeRule (take 2 (patternChecks bs)) r h (front-refuses (shape-valid bs p e) BadPattern [] [] r w)
+
+    pub pattern-rules-pass : ValidPattern p → Passes (patternChecks bs)
+    pattern-rules-pass v = rest-passes (pattern-rows bs) Length shapeRule (take 2 (patternChecks bs)) h (shape-valid bs p e .0 v, tt)
