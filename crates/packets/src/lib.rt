@@ -121,3 +121,46 @@ pub fn read_pattern(s: &[u8]) -> PatternRead
         },
     }
 }
+
+// Puts four bytes at `at`.
+fn put_four(out: &mut [u8], at: usize, a: u8, b: u8, c: u8, d: u8)
+    requires { ⌜ at + 4 ≤ length (now out) ⌝ }
+    ensures { λ _. ⌜ now (out .exit) ≡ take at (now (out .entry)) ++ (a ∷ b ∷ c ∷ d ∷ []) ++ drop (at + 4) (now (out .entry)) ⌝ }
+{
+    out[at] = a;
+    out[at + 1] = b;
+    out[at + 2] = c;
+    out[at + 3] = d;
+}
+
+// The packet of a pattern, at the front of `out`.
+fn put_pattern(p: Pattern, out: &mut [u8])
+    requires { ⌜ (p .count ≤ 64) × (patternLength (p .count) + 3 ≤ length (now out)) ⌝ }
+    ensures { λ _. ⌜ now (out .exit) ≡ patternPacket (shapeOf p) ++ drop (patternLength (p .count) + 3) (now (out .entry)) ⌝ }
+{
+    let n = p.count;
+    let field = 1 + 4 * n;
+    put_four(out, 0, 1, (field / 256) as u8, (field % 256) as u8, p.output.0);
+    let mut k = 0;
+    while k < n {
+        let label = p.label[k];
+        put_four(out, 4 + 4 * k, p.parent[k], p.axis[k], (label / 256) as u8, (label % 256) as u8);
+        k += 1;
+    }
+}
+
+// Writes the packet of a pattern to the front of `out` and answers how many bytes it has; bytes past them stay as they were.
+// Refused by BadPattern, then Room, with `out` as it was.
+pub fn write_pattern(p: Pattern, out: &mut [u8]) -> Counted
+    ensures { λ r. ⌜ WritesPattern p (now (out .entry)) r (now (out .exit)) ⌝ }
+{
+    if let Checked::Refused(r) = tables::check_pattern(p) {
+        return Counted::Refused(r);
+    }
+    let size = 1 + 4 * p.count + 3;
+    if out.len() < size {
+        return Counted::Refused(Refusal::Room);
+    }
+    put_pattern(p, out);
+    Counted::Count(size)
+}

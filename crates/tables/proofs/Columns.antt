@@ -6,8 +6,8 @@ use native.Mathlib.Omega.{arith}
 use native.Mathlib.Nat.{zero-mul, suc-mul}
 use native.Mathlib.Decide.{decLt}
 use native.Mathlib.Numerals.{add-one}
-use lib.ListN.{length, getD, set, drop, replicate, length-append, length-drop, length-replicate, getD-replicate, List·getD-append, List·getD-eq-default}
-use lib.Seq.{getD-append-add, getD-drop, drop-cons, set-at, ext-getD}
+use lib.ListN.{length, getD, set, take, drop, replicate, length-append, length-drop, length-replicate, getD-replicate, List·getD-append, List·getD-eq-default}
+use lib.Seq.{getD-append-add, getD-drop, drop-cons, drop-drop, drop-append-add, take-at, set-at, ext-getD}
 use Rattle.tables.specs.Column.{blocks, column, padded}
 use Rattle.tables.proofs.Choice.{below-or-at}
 
@@ -56,6 +56,14 @@ column-self xs = ext-getD 0 (column (λ k. getD xs k 0) (length xs)) xs (column-
 -- one entry more of a list that is written from the front
 pub put-next : (xs d : List ℕ) (m v : ℕ) → length xs ≡ m → m < length d → set (xs ++ drop m d) m v ≡ (xs ++ (v ∷ [])) ++ drop (m + 1) d
 put-next xs d m v e l = rw (add-one, drop-cons d m 0, set-at xs (getD d m 0) (drop (suc m) d) v m e, append-assoc)
+
+-- what stands past the first m entries
+pub drop-past : (xs ys : List ℕ) (m w : ℕ) → length xs ≡ m → drop (m + w) (xs ++ ys) ≡ drop w ys
+drop-past xs ys m w e = subst (λ (k : ℕ). drop (k + w) (xs ++ ys) ≡ drop w ys) e (drop-append-add xs ys w)
+
+-- one block more of such a list
+pub put-block : (xs ys d : List ℕ) (m w : ℕ) → length xs ≡ m → take m (xs ++ drop m d) ++ ys ++ drop (m + w) (xs ++ drop m d) ≡ xs ++ ys ++ drop (m + w) d
+put-block xs ys d m w e = rw (take-at xs (drop m d) m e, drop-past xs (drop m d) m w e, drop-drop w m d)
 
 pub column-next : (f : ℕ → ℕ) (d : List ℕ) (k v : ℕ) → k < length d → v ≡ f k → set (column f k ++ drop k d) k v ≡ column f (k + 1) ++ drop (k + 1) d
 unfolding blocks
