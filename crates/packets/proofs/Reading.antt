@@ -1,21 +1,26 @@
 -- The checks of a packet, from those of its header, which both kinds of packet share, and those of its table. Assumes nothing.
 use Prim.Native.Nat.{ℕ, _+_, _*_, _/_, _≤_}
-use mathlib.Core.Path.{_≡_, sym, subst}
-use mathlib.Core.Logic.{_↔_}
+use mathlib.Core.Path.{_≡_, refl, sym, ap, ap₂, _∙_, subst}
+use mathlib.Core.Logic.{_↔_, inl, inr, ⊎-elim}
 use mathlib.Core.List.{List, [], _∷_, _++_}
 use native.Mathlib.Omega.{arith}
 use lib.ListN.{length, take}
+use lib.Seq.{take-at}
+use Rattle.tables.specs.Column.{column}
+use Rattle.tables.specs.Document.{Document, ValidDocument}
 use Rattle.tables.specs.Pattern.{shapeOf, patternOf, ValidShape, ValidPattern}
 use Rattle.tables.specs.Refusal.{Check, Passes, Refuses, CountedBy}
 use Rattle.tables.specs.declared.Pattern.{Pattern}
 use Rattle.tables.specs.declared.Counted.{Counted}
 use Rattle.tables.specs.declared.Refusal.{Refusal}
-use Rattle.tables.specs.declared.Refusal.the-variants.{Length, BadPattern}
+use Rattle.tables.specs.declared.Refusal.the-variants.{Length, BadPattern, BadDocument, Room}
 use Rattle.tables.proofs.Agreement.{valid-agree}
+use Rattle.tables.proofs.Columns.{column-length}
 use Rattle.tables.proofs.Outcomes.{front-refuses, rest-refuses, rest-passes}
 use Rattle.tables.proofs.Rules.{pattern-of-shape, agree-sym}
 use Rattle.packets.specs.Bytes.{half}
 use Rattle.packets.specs.PatternPacket.{packetShape, PatternSized, patternChecks}
+use Rattle.packets.specs.DocumentPacket.{nodesIn, packetDocument, DocumentSized, documentChecks}
 
 -- the length field stands for a number of rows, `most` at most, after `extra` bytes, and agrees with the bytes present
 abbrev pub RowsIn : List ℕ → ℕ → ℕ → Type 0
@@ -56,3 +61,36 @@ module _ (bs : List ℕ) where
 
     pub pattern-rules-pass : ValidPattern p → Passes (patternChecks bs)
     pattern-rules-pass v = rest-passes (pattern-rows bs) Length shapeRule (take 2 (patternChecks bs)) h (shape-valid bs p e .0 v, tt)
+
+document-rows : (bs : List ℕ) → RowsIn bs 0 2048 ↔ ((n : ℕ) × DocumentSized bs n)
+document-rows bs = (
+  λ z. (z .0, record { some = z .1; few = z .2; field = omega (arith, z .3); present = omega (arith, z .3, z .4) }),
+  λ z. (z .0, z .1 .some, z .1 .few, omega (arith, z .1 .field), omega (arith, z .1 .field, z .1 .present)),
+)
+
+-- the fronts of two lists that were filled from a packet are its document
+pub document-fronts : (bs xs ys d e : List ℕ) (n : ℕ) → n ≡ nodesIn bs → xs ≡ column (λ i. half bs (3 + 4 * i)) n ++ d → ys ≡ column (λ i. half bs (5 + 4 * i)) n ++ e
+    → record { parents = take n xs; labels = take n ys } ≡ packetDocument bs
+unfolding packetDocument
+document-fronts bs xs ys d e n h f g = ap₂ (λ x y. record { parents = x; labels = y }) (front (λ i. half bs (3 + 4 * i)) xs d f) (front (λ i. half bs (5 + 4 * i)) ys e g)
+  where
+    front : (f : ℕ → ℕ) (xs d : List ℕ) → xs ≡ column f n ++ d → take n xs ≡ column f (nodesIn bs)
+    front f xs d p = ap (take n) p ∙ take-at (column f n) d n (column-length f n) ∙ ap (column f) h
+
+module _ (bs : List ℕ) (a b : ℕ) where
+  -- the checks of a document packet past its header
+  abbrev nodeRules : List Check
+  nodeRules = record { asks = ValidDocument (packetDocument bs); gives = BadDocument } ∷ record { asks = (nodesIn bs ≤ a) × (nodesIn bs ≤ b); gives = Room } ∷ []
+
+  pub document-head-refuses : (r : Refusal) → Refuses (headChecks bs 0 2048) r → Refuses (documentChecks bs a b) r
+  document-head-refuses r = front-refuses (document-rows bs) Length nodeRules (take 2 (patternChecks bs)) r
+
+  module _ (h : Passes (headChecks bs 0 2048)) where
+    pub document-rules-refuse : (r : Refusal) → Refuses (record { asks = ValidDocument (packetDocument bs); gives = BadDocument } ∷ []) r → Refuses (documentChecks bs a b) r
+    document-rules-refuse r w = rest-refuses (document-rows bs) Length nodeRules (take 2 (patternChecks bs)) r h (⊎-elim inl (λ x. absurd (x .1)) w)
+
+    pub document-room-refuses : ValidDocument (packetDocument bs) → ((nodesIn bs ≤ a) × (nodesIn bs ≤ b) → ⊥) → Refuses (documentChecks bs a b) Room
+    document-room-refuses v w = rest-refuses (document-rows bs) Length nodeRules (take 2 (patternChecks bs)) Room h (inr (v, inl (w, refl)))
+
+    pub document-passes : ValidDocument (packetDocument bs) → nodesIn bs ≤ a → nodesIn bs ≤ b → Passes (documentChecks bs a b)
+    document-passes v f g = rest-passes (document-rows bs) Length nodeRules (take 2 (patternChecks bs)) h (v, ((f, g), tt))

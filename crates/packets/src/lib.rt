@@ -164,3 +164,50 @@ pub fn write_pattern(p: Pattern, out: &mut [u8]) -> Counted
     put_pattern(p, out);
     Counted::Count(size)
 }
+
+// Every second 16-bit number from byte o on, n of them, at the front of `dst`.
+fn decode(s: &[u8], o: usize, n: usize, dst: &mut [u16])
+    requires { ⌜ (n ≤ length (now dst)) × (n ≤ 2048) × (o ≤ 5) × (o + 4 * n ≤ length (now s) + 2) ⌝ }
+    ensures { λ _. ⌜ now (dst .exit) ≡ column (λ i. half (now (s .entry)) (o + 4 * i)) n ++ drop n (now (dst .entry)) ⌝ }
+{
+    let mut k = 0;
+    while k < n {
+        dst[k] = half_at(s, o + 4 * k);
+        k += 1;
+    }
+}
+
+// Do the n nodes of a packet obey the rules?
+fn check_nodes(s: &[u8], n: usize) -> Checked
+    requires { ⌜ (n ≤ 2048) × (length (now s) ≡ 4 * n + 3) × (n ≡ nodesIn (now s)) ⌝ }
+    ensures { λ r. ⌜ ChecksDocument (packetDocument (now (s .entry))) r ⌝ }
+{
+    let mut parents = [0u16; 2048];
+    let mut labels = [0u16; 2048];
+    decode(s, 3, n, &mut parents);
+    decode(s, 5, n, &mut labels);
+    tables::check_document(&parents[..n], &labels[..n])
+}
+
+// Reads the document of a packet into the fronts of two lists and answers how many nodes it has; entries past them stay as they were.
+// Refused by Length, Version, Length, BadDocument or Room, the first that applies, with both lists as they were.
+pub fn read_document(s: &[u8], parents: &mut [u16], labels: &mut [u16]) -> Counted
+    ensures { λ r. ⌜ ReadsDocument (now (s .entry)) (now (parents .entry)) (now (labels .entry)) r (now (parents .exit)) (now (labels .exit)) ⌝ }
+{
+    let n = match rows_in(s, 0, 2048) {
+        Counted::Count(n) => n,
+        Counted::Refused(r) => return Counted::Refused(r),
+    };
+    if let Checked::Refused(r) = check_nodes(s, n) {
+        return Counted::Refused(r);
+    }
+    if parents.len() < n {
+        return Counted::Refused(Refusal::Room);
+    }
+    if labels.len() < n {
+        return Counted::Refused(Refusal::Room);
+    }
+    decode(s, 3, n, parents);
+    decode(s, 5, n, labels);
+    Counted::Count(n)
+}
