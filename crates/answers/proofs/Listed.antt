@@ -101,7 +101,7 @@ module _ (A : Shape) (d : Document) (First : ℕ → Type 0) (va : ValidShape A)
     ));
     count = omega (arith, h .count, length-append (h .answers) (k ∷ []));
     few = omega (arith, h .few);
-    written = ap (λ x. set x c k) (h .written) ∙ put-next (h .answers) before k c (h .count) l;
+    written = ap (λ x. set x c k) (h .written) ∙ put-next (h .answers) before c k (sym (h .count)) l;
   }
 
   -- after the last node the list is that of all answers

@@ -57,8 +57,8 @@ module _ (A : Shape) (kids : List ℕ) (de : ℕ) (k : ChildPlan A kids de) wher
         let mo : Marks over None = rw z (marks-none None (λ s w. w)) in
         let whole : ℕ = bitAnd fit (bitOr over start) in
         let mw : Marks whole (PlacedAt A d First 0) = root-placed A d First (k .valid) vd whole
-            (marks-to whole (λ s. FitsAt A d 0 s × (None s ⊎ ((s ≡ 0) × First 0))) (λ s. FitsAt A d 0 s × ((s ≡ 0) × First 0))
-            (λ s w. (w .0, ⊎-elim (λ y. absurd y) (λ y. y) (w .1))) (λ s w. (w .0, inr (w .1))) (whole-marks 0 fit over start None mf mo ms)) in
+        (marks-to whole (λ s. FitsAt A d 0 s × (None s ⊎ ((s ≡ 0) × First 0))) (λ s. FitsAt A d 0 s × ((s ≡ 0) × First 0))
+        (λ s w. (w .0, ⊎-elim (λ y. absurd y) (λ y. y) (w .1))) (λ s w. (w .0, inr (w .1))) (whole-marks 0 fit over start None mf mo ms)) in
         record {
           placed = mw;
           allows = root-allowed A d First (k .valid) vd whole mw x

@@ -87,7 +87,18 @@ pub(crate) fn mark_starts(starts: &[u16], n: usize, work: &mut [u64])
 }
 
 // The turn of node i, past the first, in the first pass: its parent is p and its label l.
-fn turn_up(low: &[u64; 256], high: &[u64; 256], lack: &[u64; 2048], ch: u64, de: u64, l: u16, i: usize, p: usize, seed: u64, work: &mut [u64])
+fn turn_up(
+    low: &[u64; 256],
+    high: &[u64; 256],
+    lack: &[u64; 2048],
+    ch: u64,
+    de: u64,
+    l: u16,
+    i: usize,
+    p: usize,
+    seed: u64,
+    work: &mut [u64],
+)
     requires { ⌜ (p < i) × (i < 2048) × (2 * i + 1 < length (now work)) ⌝ }
     ensures { λ _. ⌜ Handed (now (work .entry)) i p (fitMask (now (low .entry)) (now (high .entry)) (now (lack .entry)) ch de l (getD (now (work .entry)) (2 * i) 0) (getD (now (work .entry)) (2 * i + 1) 0)) (getD (now (work .entry)) (2 * i + 1) 0) seed (now (work .exit)) ⌝ }
 {
@@ -98,7 +109,16 @@ fn turn_up(low: &[u64; 256], high: &[u64; 256], lack: &[u64; 2048], ch: u64, de:
 }
 
 // The turn of node 0.
-fn turn_root(low: &[u64; 256], high: &[u64; 256], lack: &[u64; 2048], ch: u64, de: u64, l: u16, seed: u64, work: &mut [u64])
+fn turn_root(
+    low: &[u64; 256],
+    high: &[u64; 256],
+    lack: &[u64; 2048],
+    ch: u64,
+    de: u64,
+    l: u16,
+    seed: u64,
+    work: &mut [u64],
+)
     requires { ⌜ 1 < length (now work) ⌝ }
     ensures { λ _. ⌜ now (work .exit) ≡ set (set (now (work .entry)) 0 (fitMask (now (low .entry)) (now (high .entry)) (now (lack .entry)) ch de l (getD (now (work .entry)) 0 0) (getD (now (work .entry)) 1 0))) 1 seed ⌝ }
 {
@@ -110,7 +130,17 @@ fn turn_root(low: &[u64; 256], high: &[u64; 256], lack: &[u64; 2048], ch: u64, d
 }
 
 // All turns of the first pass, over a list whose entries for the nodes are zero.
-fn lift(low: &[u64; 256], high: &[u64; 256], lack: &[u64; 2048], ch: u64, de: u64, parents: &[u16], labels: &[u16], seed: u64, work: &mut [u64])
+fn lift(
+    low: &[u64; 256],
+    high: &[u64; 256],
+    lack: &[u64; 2048],
+    ch: u64,
+    de: u64,
+    parents: &[u16],
+    labels: &[u16],
+    seed: u64,
+    work: &mut [u64],
+)
     requires { ⌜ ValidDocument (record { parents = now parents; labels = now labels }) ⌝ }
     requires { ⌜ 2 * length (now parents) ≤ length (now work) ⌝ }
     requires { ⌜ ((q : ℕ) → q < 2 * length (now parents) → getD (now work) q 0 ≡ 0) ⌝ }
@@ -119,7 +149,18 @@ fn lift(low: &[u64; 256], high: &[u64; 256], lack: &[u64; 2048], ch: u64, de: u6
     let mut i = parents.len();
     while 1 < i {
         i -= 1;
-        turn_up(low, high, lack, ch, de, labels[i], i, parents[i] as usize, seed, work);
+        turn_up(
+            low,
+            high,
+            lack,
+            ch,
+            de,
+            labels[i],
+            i,
+            parents[i] as usize,
+            seed,
+            work,
+        );
     }
     turn_root(low, high, lack, ch, de, labels[0], seed, work);
 }
@@ -165,7 +206,14 @@ fn note(list: &mut [u16], c: usize, i: usize, whole: u64, output: usize) -> usiz
 }
 
 // The turn of node i in the second pass: the steps that stand there in a whole placement.
-fn turn_down(kids: &[u64; 2048], de: u64, parents: &[u16], i: usize, work: &mut [u64], allowed: &mut [u64; 2048]) -> u64
+fn turn_down(
+    kids: &[u64; 2048],
+    de: u64,
+    parents: &[u16],
+    i: usize,
+    work: &mut [u64],
+    allowed: &mut [u64; 2048],
+) -> u64
     requires { ⌜ (i < length (now parents)) × (i < 2048) × (2 * i + 1 < length (now work)) × (length (now allowed) ≡ 2048) ⌝ }
     requires { ⌜ (0 < i → getD (now parents) i 0 < i) ⌝ }
     ensures sizes { λ _. ⌜ (length (now (work .exit)) ≡ length (now (work .entry))) × (length (now (allowed .exit)) ≡ length (now (allowed .entry))) ⌝ }
@@ -179,7 +227,14 @@ fn turn_down(kids: &[u64; 2048], de: u64, parents: &[u16], i: usize, work: &mut 
 }
 
 // All turns of the second pass, with the tables of the pattern whose output step is `output`.
-fn lower(kids: &[u64; 2048], de: u64, output: usize, parents: &[u16], work: &mut [u64], list: &mut [u16]) -> usize
+fn lower(
+    kids: &[u64; 2048],
+    de: u64,
+    output: usize,
+    parents: &[u16],
+    work: &mut [u64],
+    list: &mut [u16],
+) -> usize
     requires { ⌜ (output < 64) × (length (now parents) ≤ 2048) × (2 * length (now parents) ≤ length (now work)) × (length (now parents) ≤ length (now list)) ⌝ }
     requires { ⌜ ((i : ℕ) → 0 < i → i < length (now parents) → getD (now parents) i 0 < i) ⌝ }
     ensures { λ r. ⌜ ((A : Shape) (labels : List ℕ) → ValidDocument (record { parents = now (parents .entry); labels = labels }) → ChildPlan A (now (kids .entry)) de → A .output ≡ output → Ready A (record { parents = now (parents .entry); labels = labels }) (now (work .entry)) → Found A (record { parents = now (parents .entry); labels = labels }) (Marked (now (work .entry))) (now (list .entry)) (now (work .entry)) r (now (list .exit)) (now (work .exit))) ⌝ }
@@ -197,7 +252,13 @@ fn lower(kids: &[u64; 2048], de: u64, output: usize, parents: &[u16], work: &mut
 }
 
 // The second pass: which steps stand at each node in a whole placement, and the answers. A second entry of 1 marks a start node.
-pub(crate) fn descend(p: Pattern, parents: &[u16], labels: &[u16], work: &mut [u64], list: &mut [u16]) -> usize
+pub(crate) fn descend(
+    p: Pattern,
+    parents: &[u16],
+    labels: &[u16],
+    work: &mut [u64],
+    list: &mut [u16],
+) -> usize
     requires { ⌜ ValidPattern p ⌝ }
     requires { ⌜ ValidDocument (record { parents = now parents; labels = now labels }) ⌝ }
     requires { ⌜ length (now parents) ≤ length (now list) ⌝ }

@@ -1,4 +1,5 @@
 -- Laws of packets. Assumes nothing.
 pub mod Halves
 pub mod PatternTrip
+pub mod Reading
 pub mod DocumentTrip

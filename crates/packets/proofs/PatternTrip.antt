@@ -24,10 +24,10 @@ use Rattle.tables.proofs.Agreement.{valid-agree}
 use Rattle.tables.proofs.Outcomes.{decided-both, counted-both}
 
 -- the four bytes before the steps
-abbrev head : Shape → List ℕ
+abbrev pub head : Shape → List ℕ
 head A = 1 ∷ high (patternLength (A .tree .size)) ∷ low (patternLength (A .tree .size)) ∷ A .output ∷ []
 
-step-four : (A : Shape) (s : ℕ) → length (stepBytes A s) ≡ 4
+pub step-four : (A : Shape) (s : ℕ) → length (stepBytes A s) ≡ 4
 unfolding stepBytes
 step-four A s = refl
 

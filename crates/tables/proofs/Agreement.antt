@@ -1,8 +1,11 @@
--- Shapes that agree obey the rules together. Assumes nothing.
-use Prim.Native.Nat.{ℕ, zero, suc, _<_}
+-- Rows hang right together in trees that agree, and shapes that agree obey the rules together. Assumes nothing.
+use Prim.Native.Nat.{ℕ, zero, suc, _≤_, _<_}
 use mathlib.Core.Path.{_≡_, sym, _∙_, subst}
-use mathlib.Core.Logic.{_⊎_, inl, inr}
+use mathlib.Core.Logic.{_⊎_, inl, inr, _↔_}
+use mathlib.Core.List.{List}
 use native.Mathlib.Omega.{arith}
+use lib.ListN.{length, getD, take}
+use lib.Seq.{length-take-le, getD-take}
 use Rattle.tables.specs.Tree.{Tree, Child, Below, child, under, From, Hangs, IsLabel}
 use Rattle.tables.specs.Pattern.{Shape, StepRule, ValidShape}
 use Rattle.tables.proofs.Rules.{Agree}
@@ -24,6 +27,13 @@ module _ {S T : Tree} (n : S .size ≡ T .size) (p : (i : ℕ) → i < S .size �
       from : {a : ℕ} → From S a s → From T a s
       from (inl e) = inl e
       from (inr b) = inr (below-agree b)
+
+-- a row hangs right in a table of n rows exactly if it does in the table's first n entries
+pub hangs-front : (ps : List ℕ) (n : ℕ) → n ≤ length ps → (root s : ℕ) → s < n
+    → Hangs (record { size = n; parent = λ j. getD ps j 0 }) root s ↔ Hangs (record { size = length (take n ps); parent = λ j. getD (take n ps) j 0 }) root s
+hangs-front ps n l root s h =
+    let e : length (take n ps) ≡ n = length-take-le n ps l in
+    (hangs-agree (sym e) (λ i m. sym (getD-take n ps i 0 m)) root s h, hangs-agree e (λ i m. getD-take n ps i 0 (omega arith)) root s (omega arith))
 
 -- shapes that agree are valid together
 pub valid-agree : {A B : Shape} → Agree A B → ValidShape A → ValidShape B

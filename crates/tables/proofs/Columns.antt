@@ -1,13 +1,13 @@
 -- Laws of blocks, of columns and of arrays that are zero past their first entries. Assumes nothing.
 use Prim.Native.Nat.{ℕ, zero, suc, _+_, _*_, _-_, _≤_, _<_}
 use mathlib.Core.Path.{_≡_, refl, sym, ap, ap₂, _∙_, subst}
-use mathlib.Core.List.{List, [], _∷_, _++_}
+use mathlib.Core.List.{List, [], _∷_, _++_, append-assoc}
 use native.Mathlib.Omega.{arith}
 use native.Mathlib.Nat.{zero-mul, suc-mul}
 use native.Mathlib.Decide.{decLt}
 use native.Mathlib.Numerals.{add-one}
-use lib.ListN.{length, getD, drop, set, replicate, length-append, length-drop, length-replicate, getD-replicate, List·getD-append, List·getD-eq-default}
-use lib.Seq.{getD-append-add, getD-drop, ext-getD, drop-cons, set-at, append-snoc}
+use lib.ListN.{length, getD, set, take, drop, replicate, length-append, length-drop, length-replicate, getD-replicate, List·getD-append, List·getD-eq-default}
+use lib.Seq.{getD-append-add, getD-drop, drop-cons, drop-drop, drop-append-add, take-at, set-at, ext-getD}
 use Rattle.tables.specs.Column.{blocks, column, padded}
 use Rattle.tables.proofs.Choice.{below-or-at}
 
@@ -53,6 +53,25 @@ pub column-self : (xs : List ℕ) → column (λ k. getD xs k 0) (length xs) ≡
 column-self xs = ext-getD 0 (column (λ k. getD xs k 0) (length xs)) xs (column-length (λ k. getD xs k 0) (length xs))
     (λ k l. column-at (λ k. getD xs k 0) (length xs) k (omega (arith, column-length (λ k. getD xs k 0) (length xs))))
 
+-- one entry more of a list that is written from the front
+pub put-next : (xs d : List ℕ) (m v : ℕ) → length xs ≡ m → m < length d → set (xs ++ drop m d) m v ≡ (xs ++ (v ∷ [])) ++ drop (m + 1) d
+put-next xs d m v e l = rw (add-one, drop-cons d m 0, set-at xs (getD d m 0) (drop (suc m) d) v m e, append-assoc)
+
+-- what stands past the first m entries
+pub drop-past : (xs ys : List ℕ) (m w : ℕ) → length xs ≡ m → drop (m + w) (xs ++ ys) ≡ drop w ys
+drop-past xs ys m w e = subst (λ (k : ℕ). drop (k + w) (xs ++ ys) ≡ drop w ys) e (drop-append-add xs ys w)
+
+-- one block more of such a list
+pub put-block : (xs ys d : List ℕ) (m w : ℕ) → length xs ≡ m → take m (xs ++ drop m d) ++ ys ++ drop (m + w) (xs ++ drop m d) ≡ xs ++ ys ++ drop (m + w) d
+put-block xs ys d m w e = rw (take-at xs (drop m d) m e, drop-past xs (drop m d) m w e, drop-drop w m d)
+
+pub column-next : (f : ℕ → ℕ) (d : List ℕ) (k v : ℕ) → k < length d → v ≡ f k → set (column f k ++ drop k d) k v ≡ column f (k + 1) ++ drop (k + 1) d
+unfolding blocks
+column-next f d k v l e = put-next (column f k) d k v (column-length f k) l ∙ rw (add-one, e)
+
+pub padded-next : (f : ℕ → ℕ) (xs : List ℕ) (k v : ℕ) → k < 64 → v ≡ f k → xs ≡ padded f k → set xs k v ≡ padded f (k + 1)
+padded-next f xs k v l e g = rw g (column-next f (replicate 64 0) k v l e)
+
 pub padded-at : (f : ℕ → ℕ) (n k : ℕ) → k < n → getD (padded f n) k 0 ≡ f k
 padded-at f n k l = List·getD-append (column f n) (drop n (replicate 64 0)) 0 k (omega (arith, column-length f n)) ∙ column-at f n k l
 
@@ -77,9 +96,3 @@ padded-length f n l =
 
 pub padded-ext : (f g : ℕ → ℕ) (n : ℕ) → ((k : ℕ) → k < n → f k ≡ g k) → padded f n ≡ padded g n
 padded-ext f g n h = ap (λ l. l ++ drop n (replicate 64 0)) (column-ext f g n h)
-
--- one entry more at the front of a lent list
-pub put-next : (xs before : List ℕ) (v c : ℕ) → c ≡ length xs → c < length before → set (xs ++ drop c before) c v ≡ (xs ++ (v ∷ [])) ++ drop (c + 1) before
-put-next xs before v c e l =
-    ap (λ r. set (xs ++ r) c v) (drop-cons before c 0 l) ∙ set-at xs (getD before c 0) (drop (suc c) before) v c (sym e)
-    ∙ ap (λ n. xs ++ (v ∷ drop n before)) (sym (add-one c)) ∙ sym (append-snoc xs v (drop (c + 1) before))

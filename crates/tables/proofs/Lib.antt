@@ -3,6 +3,7 @@ pub mod Choice
 pub mod Tests
 pub mod Trees
 pub mod Climb
+pub mod Climbing
 pub mod Depth
 pub mod Columns
 pub mod Rules

@@ -45,6 +45,10 @@ refuses-unique (c ∷ cs) r q h k = ⊎-elim
     (λ w. ⊎-elim (λ x. absurd (x .0 (w .0))) (λ x. refuses-unique cs r q (w .1) (x .1)) k)
     h
 
+-- a call with one check refuses where that does not hold
+pub refused : {X : Type 0} (r : Refusal) → (X → ⊥) → Decided (record { asks = X; gives = number r } ∷ []) (checked.Refused r) (Unit {0}) (Unit {0})
+refused r h = (inl (h, refl), tt)
+
 -- no second answer fits a check
 pub decided-unique : (cs : List Check) (a b : Checked) (X Y X′ Y′ : Type 0) → Decided cs a X Y → Decided cs b X′ Y′ → a ≡ b
 decided-unique cs checked.Right checked.Right X Y X′ Y′ h k = refl

@@ -135,23 +135,23 @@ tells-document d =
     )
 
 -- patterns with the same parts are one
+pub pattern-ext : (p q : Pattern) → p .count ≡ q .count → p .output .0 ≡ q .output .0 → p .parent ≡ q .parent → p .axis ≡ q .axis → p .label ≡ q .label → p ≡ q
+unfolding tableOf
+pattern-ext p q n o ps xs ls = λ i. tableOf (n i) (o i) (ps i) (xs i) (ls i)
+
 unfoldable pub samePattern : Pattern → Pattern → Bool
 samePattern p q =
     eqb (p .count) (q .count) && (eqb (p .output .0) (q .output .0) && (sameList (p .parent) (q .parent) && (sameList (p .axis) (q .axis) && sameList (p .label) (q .label))))
 
 pub same-pattern : (p q : Pattern) → T (samePattern p q) → p ≡ q
-unfolding samePattern tableOf
+unfolding samePattern
 same-pattern p q t =
     let a = and-both (eqb (p .count) (q .count)) _ t in
     let b = and-both (eqb (p .output .0) (q .output .0)) _ (a .1) in
     let c = and-both (sameList (p .parent) (q .parent)) _ (b .1) in
     let d = and-both (sameList (p .axis) (q .axis)) _ (c .1) in
-    let n : p .count ≡ q .count = eqb→eq (p .count) (q .count) (a .0) in
-    let o : p .output .0 ≡ q .output .0 = eqb→eq (p .output .0) (q .output .0) (b .0) in
-    let ps : p .parent ≡ q .parent = same-list (p .parent) (q .parent) (c .0) in
-    let xs : p .axis ≡ q .axis = same-list (p .axis) (q .axis) (d .0) in
-    let ls : p .label ≡ q .label = same-list (p .label) (q .label) (d .1) in
-    λ i. tableOf (n i) (o i) (ps i) (xs i) (ls i)
+    pattern-ext p q (eqb→eq (p .count) (q .count) (a .0)) (eqb→eq (p .output .0) (q .output .0) (b .0))
+    (same-list (p .parent) (q .parent) (c .0)) (same-list (p .axis) (q .axis) (d .0)) (same-list (p .label) (q .label) (d .1))
 
 -- documents with the same lists are one
 unfoldable pub sameDocument : Document → Document → Bool

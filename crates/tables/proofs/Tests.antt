@@ -68,6 +68,15 @@ pub tells-not : {b : Bool} {X : Type 0} → Tells b X → Tells (not b) (X → �
 tells-not {b = true} h = record { says = λ t. absurd t; test = λ f. f (h .says tt) }
 tells-not {b = false} h = record { says = λ t x. h .test x; test = λ f. tt }
 
+-- a test whose negation is false passes, and one whose negation is true does not
+pub passed : (b : Bool) → not b ≡ false → T b
+passed true e = tt
+passed false e = let z : true ≡ false = e in let w : _≡_ {A = ℕ} 0 1 = cc in absurd (omega arith)
+
+pub failed : (b : Bool) → not b ≡ true → T b → ⊥
+failed true e t = let z : false ≡ true = e in let w : _≡_ {A = ℕ} 0 1 = cc in omega arith
+failed false e t = t
+
 -- both parts of a test that passes
 pub and-both : (a b : Bool) → T (a && b) → T a × T b
 and-both true b t = (tt, t)

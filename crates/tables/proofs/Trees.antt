@@ -17,21 +17,24 @@ pub record Ordered (T : Tree) : Type 0 where
   pub order : (i : ℕ) → suc i < T .size → From T (T .parent (suc i)) i
 
 -- what lies below a lies past it, where parents go down up to i
-below-lt-to : {T : Tree} {a i : ℕ} → ((j : ℕ) → j ≤ i → 0 < j → j < T .size → T .parent j < j) → Below T a i → a < i
+pub below-lt-to : {T : Tree} {a i : ℕ} → ((j : ℕ) → j ≤ i → 0 < j → j < T .size → T .parent j < j) → Below T a i → a < i
 below-lt-to {T} {a} {i} h (child c) = omega (arith, h i (omega arith) (c .late) (c .here), c .up)
 below-lt-to {T} {a} {i} h (under {m = m} c b) =
     let g : m < i = omega (arith, h i (omega arith) (c .late) (c .here), c .up) in
     let r : a < m = below-lt-to (λ j l. h j (omega arith)) b in
     omega arith
 
-parent-lt-to : {T : Tree} → Ordered T → (k i : ℕ) → i ≤ k → 0 < i → i < T .size → T .parent i < i
-parent-lt-to v zero i l p s = omega arith
-parent-lt-to v (suc k) zero l p s = omega arith
-parent-lt-to v (suc k) (suc i) l p s =
-    ⊎-elim (λ e. omega arith) (λ b. omega (arith, below-lt-to (λ j m. parent-lt-to v k j (omega arith)) b)) (v .order i s)
+-- a row that hangs right, and with it every row before it, has a parent before it
+pub parent-lt-to : {T : Tree} (k : ℕ) → ((j : ℕ) → j < k → suc j < T .size → From T (T .parent (suc j)) j) → (i : ℕ) → i ≤ k → 0 < i → i < T .size → T .parent i < i
+parent-lt-to zero v i l p s = omega arith
+parent-lt-to (suc k) v zero l p s = omega arith
+parent-lt-to (suc k) v (suc i) l p s = ⊎-elim
+    (λ e. omega arith)
+    (λ b. omega (arith, below-lt-to (λ j m. parent-lt-to k (λ x h. v x (omega arith)) j (omega arith)) b))
+    (v i (omega arith) s)
 
 pub parent-lt : {T : Tree} → Ordered T → (i : ℕ) → 0 < i → i < T .size → T .parent i < i
-parent-lt v i = parent-lt-to v i i (omega arith)
+parent-lt v i = parent-lt-to i (λ j l. v .order j) i (omega arith)
 
 pub below-lt : {T : Tree} {a i : ℕ} → Ordered T → Below T a i → a < i
 below-lt v b = below-lt-to (λ j l. parent-lt v j) b

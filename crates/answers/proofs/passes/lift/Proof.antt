@@ -81,13 +81,17 @@ loop-again c =
     let i : ℕ = m .loop .i - 1 in
     let h = c .before .before .turn-up .ensures in
     let l : i < length (now (s .args .parents)) = omega arith in
-    let z : suc i ≡ m .loop .i = omega arith in
-    (omega arith, omega arith, h .same-length ∙ m .loop .inv .2, λ A p.
-        let v = s .pre .0 in
-        let u : Upward A (record { parents = now (s .args .parents); labels = now (s .args .labels) }) (s .args .seed) (suc i) (now (s .args .work)) (m .loop .work) = rw z (m .loop .inv .3 A p) in
-        up-turn A _ (p .valid) v (s .args .seed) i _ _ _ _ _ (record { late = omega arith; here = l; up = refl }) u
-        (up-fits A _ (p .valid) v (s .args .seed) i _ _ l u _
-        (fit-mask A (p .valid) _ _ _ _ _ _ _ _ (p .labelled) (p .lacking) (p .child-steps) (p .descendant-steps) (omega (arith, v .nodes i l .label .most)))) h)
+    let z : suc i ≡ m .loop .i = omega arith in (
+      omega arith,
+      omega arith,
+      h .same-length ∙ m .loop .inv .2,
+      λ A p.
+          let v = s .pre .0 in
+          let u : Upward A (record { parents = now (s .args .parents); labels = now (s .args .labels) }) (s .args .seed) (suc i) (now (s .args .work)) (m .loop .work) = rw z (m .loop .inv .3 A p) in
+          up-turn A _ (p .valid) v (s .args .seed) i _ _ _ _ _ (record { late = omega arith; here = l; up = refl }) u
+          (up-fits A _ (p .valid) v (s .args .seed) i _ _ l u _
+          (fit-mask A (p .valid) _ _ _ _ _ _ _ _ (p .labelled) (p .lacking) (p .child-steps) (p .descendant-steps) (omega (arith, v .nodes i l .label .most)))) h,
+    )
 
 -- src/passes.rt:123:40
 shared-slice-read-turn-root : tie.Need-shared-slice-read-turn-root Inv-loop μ-loop
@@ -118,11 +122,11 @@ returns c =
     let e : m .loop .i ≡ 1 = omega arith in
     let r : 1 < length w = omega (arith, v .some, s .pre .1 .0, m .loop .inv .2) in
     λ A p.
-        let u : Upward A (record { parents = now (s .args .parents); labels = now (s .args .labels) }) (s .args .seed) 1 (now (s .args .work)) w = rw e at (m .loop .inv .3 A p) in
-        rw (c .before .before .turn-root .ensures)
-        (up-root A _ (p .valid) v (s .args .seed) _ _ w u
-        (up-fits A _ (p .valid) v (s .args .seed) 0 _ w (v .some) u _
-        (fit-mask A (p .valid) _ _ _ _ _ _ _ _ (p .labelled) (p .lacking) (p .child-steps) (p .descendant-steps) (omega (arith, v .nodes 0 (v .some) .label .most)))) r)
+    let u : Upward A (record { parents = now (s .args .parents); labels = now (s .args .labels) }) (s .args .seed) 1 (now (s .args .work)) w = rw e at (m .loop .inv .3 A p) in
+    rw (c .before .before .turn-root .ensures)
+    (up-root A _ (p .valid) v (s .args .seed) _ _ w u
+    (up-fits A _ (p .valid) v (s .args .seed) 0 _ w (v .some) u _
+    (fit-mask A (p .valid) _ _ _ _ _ _ _ _ (p .labelled) (p .lacking) (p .child-steps) (p .descendant-steps) (omega (arith, v .nodes 0 (v .some) .label .most)))) r)
 
 pub lift-spec : {M : Type 1} → statement M
 lift-spec =

@@ -62,11 +62,17 @@ loop-again c =
     let n = c .before .before .note .ensures in
     let z = c .before .before .before .before .before .before .turn-down .ensures .0 in
     let w = noted-few _ _ _ _ _ _ _ n in
-    let l : m .loop .c < length (now (s .args .list)) = omega (arith, s .pre .0 .3, m .loop .inv .4) in
-    (omega arith, z .1 ∙ m .loop .inv .1, z .0 ∙ m .loop .inv .2, w .1 ∙ m .loop .inv .3, omega (arith, w .0, m .loop .inv .4), λ A labels v k o r.
-        let u = m .loop .inv .5 A labels v k o r in
-        let t = c .before .before .before .before .before .before .turn-down .ensures .1 A labels (now (s .args .work)) v k (u .0) in
-        (t .0, listed-noted A _ (Marked (now (s .args .work))) (k .valid) _ _ (m .loop .i) (m .loop .c) _ _ _ _ o (t .1) n l (u .1)))
+    let l : m .loop .c < length (now (s .args .list)) = omega (arith, s .pre .0 .3, m .loop .inv .4) in (
+      omega arith,
+      z .1 ∙ m .loop .inv .1,
+      z .0 ∙ m .loop .inv .2,
+      w .1 ∙ m .loop .inv .3,
+      omega (arith, w .0, m .loop .inv .4),
+      λ A labels v k o r.
+          let u = m .loop .inv .5 A labels v k o r in
+          let t = c .before .before .before .before .before .before .turn-down .ensures .1 A labels (now (s .args .work)) v k (u .0) in
+          (t .0, listed-noted A _ (Marked (now (s .args .work))) (k .valid) _ _ (m .loop .i) (m .loop .c) _ _ _ _ o (t .1) n l (u .1)),
+    )
 
 -- src/passes.rt:181:1
 same-length : tie.Need-same-length Inv-loop μ-loop
@@ -83,8 +89,8 @@ returns c =
     let s = m .before .before .before .before in
     let e : m .loop .i ≡ length (now (s .args .parents)) = omega arith in
     λ A labels v k o r.
-        let u = rw e at (m .loop .inv .5 A labels v k o r) in
-        listed-found A _ (Marked (now (s .args .work))) (k .valid) _ _ _ _ _ _ (u .1) (u .0)
+    let u = rw e at (m .loop .inv .5 A labels v k o r) in
+    listed-found A _ (Marked (now (s .args .work))) (k .valid) _ _ _ _ _ _ (u .1) (u .0)
 
 pub lower-spec : {M : Type 1} → statement M
 lower-spec =

@@ -73,7 +73,7 @@ loop-again : tie.Need-loop-again Inv-loop μ-loop
 loop-again c =
     let l = c .before .before in
     let r : 2 * getD (now (l .before .args .starts)) (l .loop .k) 0 + 1 < length (l .loop .work)
-        = omega (arith, l .before .pre .1 (l .loop .k) (omega arith), l .before .pre .0, l .loop .inv .1 .same-length) in
+    = omega (arith, l .before .pre .1 (l .loop .k) (omega arith), l .before .pre .0, l .loop .inv .1 .same-length) in
     (omega arith, rw (add-one (l .loop .k)) (marked-more _ _ (l .loop .k) (l .loop .work) (l .loop .inv .1) r))
 
 -- src/passes.rt:69:1

@@ -65,7 +65,7 @@ loop-again : tie.Need-loop-again Inv-loop μ-loop
 loop-again c =
     let l = c .before .before .before .before in
     let r : Rising (now (l .before .args .starts)) (l .before .args .n) (suc (l .loop .k)) (suc (getD (now (l .before .args .starts)) (l .loop .k) 0))
-        = rising-more _ _ (l .loop .k) (l .loop .least) (l .loop .inv .1) (omega arith) (omega arith) in
+    = rising-more _ _ (l .loop .k) (l .loop .least) (l .loop .inv .1) (omega arith) (omega arith) in
     (omega arith, rw (add-one (l .loop .k), add-one (getD (now (l .before .args .starts)) (l .loop .k) 0)) r)
 
 -- src/passes.rt:49:1

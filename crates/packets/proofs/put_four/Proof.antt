@@ -1,0 +1,68 @@
+-- `packets::put_four` meets its contract: four stores in a row. Assumes nothing.
+use Prim.Native.Nat.{suc, _+_}
+use mathlib.Core.Path.{_≡_}
+use mathlib.Core.List.{[], _∷_}
+use native.Mathlib.Omega.{arith}
+use lib.ListN.{length-set}
+use lib.Seq.{sets-eq}
+use denote.Ref.{now}
+use borrow.Author.Needs.{needs}
+use Rattle.packets.proofs.put_four.Statement.{statement}
+use Rattle.packets.proofs.put_four.Tie as tie
+use Rattle.packets.proofs.put_four.Reads as reads
+use Rattle.packets.proofs.put_four.Lts as lts
+
+-- src/lib.rt:130:5
+slice-write-out : tie.Need-slice-write-out
+slice-write-out c = search needs
+
+-- src/lib.rt:131:9
+add-out : tie.Need-add-out
+add-out c = search needs
+
+-- src/lib.rt:131:5
+slice-write-out-2 : tie.Need-slice-write-out-2
+slice-write-out-2 c = simp length-set (omega arith)
+
+-- src/lib.rt:132:9
+add-out-2 : tie.Need-add-out-2
+add-out-2 c = search needs
+
+-- src/lib.rt:132:5
+slice-write-out-3 : tie.Need-slice-write-out-3
+slice-write-out-3 c = simp length-set (omega arith)
+
+-- src/lib.rt:133:9
+add-out-3 : tie.Need-add-out-3
+add-out-3 c = search needs
+
+-- src/lib.rt:133:5
+slice-write-out-4 : tie.Need-slice-write-out-4
+slice-write-out-4 c = simp length-set (omega arith)
+
+-- src/lib.rt:126:1
+same-length : tie.Need-same-length
+same-length c = search needs
+
+-- src/lib.rt:126:1
+returns : tie.Need-returns
+returns c =
+    let x = c .args in
+    let e : x .at + 1 ≡ suc (x .at) = omega arith in
+    let f : x .at + 2 ≡ suc (suc (x .at)) = omega arith in
+    let g : x .at + 3 ≡ suc (suc (suc (x .at))) = omega arith in
+    rw (e, f, g) (sets-eq (x .a ∷ x .b ∷ x .c ∷ x .d ∷ []) (now (x .out)) (x .at) (c .pre))
+
+pub put-four-spec : {M : Type 1} → statement M
+put-four-spec =
+    tie.close
+    (tie.spec
+    slice-write-out
+    add-out
+    slice-write-out-2
+    add-out-2
+    slice-write-out-3
+    add-out-3
+    slice-write-out-4
+    same-length
+    returns)

@@ -1,0 +1,183 @@
+-- `packets::put_pattern` meets its contract: the steps before the one looked at are written. Assumes nothing.
+use Prim.Native.Nat.{ℕ, suc, _+_, _*_, _-_, _≤_, _<_}
+use mathlib.Core.Path.{_≡_, refl, sym, ap, _∙_}
+use mathlib.Core.List.{List, _++_}
+use native.Mathlib.Omega.{arith}
+use native.Mathlib.Numerals.{add-one}
+use lib.ListN.{length, getD, take, drop}
+use lib.Seq.{drop-drop}
+use mir.Syntax.{w16}
+use mir.Val.{Fits}
+use denote.Ref.{now}
+use borrow.Author.Needs.{needs}
+use Rattle.tables.specs.Column.{blocks}
+use Rattle.tables.specs.Pattern.{Shape, shapeOf}
+use Rattle.tables.proofs.Columns.{put-block, drop-past}
+use Rattle.packets.specs.PatternPacket.{patternLength, patternPacket, stepBytes}
+use Rattle.packets.proofs.Halves.{packet-length}
+use Rattle.packets.proofs.PatternTrip.{head, step-four}
+use Rattle.packets.proofs.put_pattern.Statement.{statement}
+use Rattle.packets.proofs.put_pattern.Tie as tie
+use Rattle.packets.proofs.put_pattern.Reads as reads
+use Rattle.packets.proofs.put_pattern.Lts as lts
+use Rattle.packets.proofs.put_four.Reads as put-four-reads
+
+-- the header and the first k steps are written over d
+record Written (A : Shape) (d : List ℕ) (k : ℕ) (out : List ℕ) : Type 0 where
+  pub low : k ≤ A .tree .size
+  pub same : length out ≡ length d
+  pub is : out ≡ head A ++ blocks (stepBytes A) k ++ drop (4 + 4 * k) d
+
+written-head : (A : Shape) (d x : List ℕ) → d ≡ head A ++ drop 4 x → Written A d 0 d
+unfolding blocks
+written-head A d x e = record { low = omega arith; same = refl; is = e ∙ ap (λ l. head A ++ l) (sym (ap (drop 4) e)) }
+
+written-next : (A : Shape) (d : List ℕ) (k : ℕ) (out next : List ℕ) → k < A .tree .size → length next ≡ length out
+    → next ≡ take (4 + 4 * k) out ++ stepBytes A k ++ drop (4 + 4 * k + 4) out → Written A d k out → Written A d (k + 1) next
+unfolding blocks
+written-next A d k out next l s e w =
+    let m : 4 + 4 * k + 4 ≡ 4 + 4 * suc k = omega arith in
+    record {
+      low = omega arith;
+      same = s ∙ w .same;
+      is =
+          e
+          ∙ ap (λ l. take (4 + 4 * k) l ++ stepBytes A k ++ drop (4 + 4 * k + 4) l) (w .is)
+          ∙ put-block (head A ++ blocks (stepBytes A) k) (stepBytes A k) d (4 + 4 * k) 4 (packet-length (head A) (stepBytes A) k (step-four A))
+          ∙ rw (add-one, m);
+    }
+
+written-all : (A : Shape) (d x out : List ℕ) → d ≡ head A ++ drop 4 x → Written A d (A .tree .size) out
+    → out ≡ patternPacket A ++ drop (patternLength (A .tree .size) + 3) x
+unfolding patternPacket
+written-all A d x out e w =
+    let m : 4 + 4 * A .tree .size ≡ patternLength (A .tree .size) + 3 = omega arith in
+    w .is ∙ rw (e, drop-past (head A) (drop 4 x) 4 (4 * A .tree .size) refl, drop-drop (4 * A .tree .size) 4 x, m)
+
+abbrev Inv-loop : tie.InvT-loop
+Inv-loop out₀ p n field k₀ out k = Written (shapeOf p) out₀ k out
+
+abbrev μ-loop : tie.MeasureT-loop
+μ-loop out₀ p n field k₀ out k = n - k
+
+-- src/lib.rt:142:21
+mul-field : tie.Need-mul-field Inv-loop μ-loop
+mul-field c = omega arith
+
+-- src/lib.rt:142:17
+add-field : tie.Need-add-field Inv-loop μ-loop
+add-field c = omega arith
+
+-- src/lib.rt:143:25
+cast-put-four : tie.Need-cast-put-four Inv-loop μ-loop
+cast-put-four c = omega arith
+
+-- src/lib.rt:143:46
+cast-put-four-2 : tie.Need-cast-put-four-2 Inv-loop μ-loop
+cast-put-four-2 c = omega arith
+
+-- src/lib.rt:143:5
+put-four-requires : tie.Need-put-four-requires Inv-loop μ-loop
+put-four-requires c κs = omega arith
+
+-- src/lib.rt:145:5
+loop-holds : tie.Need-loop-holds Inv-loop μ-loop
+loop-holds c =
+    let x = c .before .before in
+    written-head (shapeOf (x .before .before .before .args .t1)) _ (now (x .before .before .before .args .out)) (x .put-four .ensures)
+
+-- src/lib.rt:146:21
+mul-label : tie.Need-mul-label Inv-loop μ-loop
+mul-label c = omega arith
+
+-- src/lib.rt:146:21
+element-copy-out-label : tie.Need-element-copy-out-label Inv-loop μ-loop
+element-copy-out-label c = omega arith
+
+-- src/lib.rt:147:27
+mul-put-four : tie.Need-mul-put-four Inv-loop μ-loop
+mul-put-four c = omega arith
+
+-- src/lib.rt:147:23
+add-put-four : tie.Need-add-put-four Inv-loop μ-loop
+add-put-four c = omega arith
+
+-- src/lib.rt:147:34
+element-copy-out-put-four : tie.Need-element-copy-out-put-four Inv-loop μ-loop
+element-copy-out-put-four c = omega arith
+
+-- src/lib.rt:147:47
+element-copy-out-put-four-2 : tie.Need-element-copy-out-put-four-2 Inv-loop μ-loop
+element-copy-out-put-four-2 c = omega arith
+
+-- src/lib.rt:147:58
+cast-put-four-3 : tie.Need-cast-put-four-3 Inv-loop μ-loop
+cast-put-four-3 c =
+    let p = c .before .before .before .before .before .before .before .before .before .before .before .args .t1 in
+    let f : Fits w16 (getD (p .label) (c .before .before .before .before .before .loop .k) 0) = search needs in
+    omega arith
+
+-- src/lib.rt:147:79
+cast-put-four-4 : tie.Need-cast-put-four-4 Inv-loop μ-loop
+cast-put-four-4 c = omega arith
+
+-- src/lib.rt:147:9
+put-four-requires-2 : tie.Need-put-four-requires-2 Inv-loop μ-loop
+put-four-requires-2 c κs = omega arith
+
+-- src/lib.rt:148:9
+add-k : tie.Need-add-k Inv-loop μ-loop
+add-k c = omega arith
+
+-- src/lib.rt:145:5
+loop-less : tie.Need-loop-less Inv-loop μ-loop
+loop-less c = omega arith
+
+-- src/lib.rt:145:5
+loop-again : tie.Need-loop-again Inv-loop μ-loop
+unfolding stepBytes
+loop-again c =
+    let x = c .before .before in
+    let l = x .before .before .before .before .before .before .loop in
+    let p = x .before .before .before .before .before .before .before .before .before .before .before .before .args .t1 in
+    written-next (shapeOf p) _ (l .k) (l .out) _ (omega arith) (x .put-four2 .kept .0) (x .put-four2 .ensures) (l .inv)
+
+-- src/lib.rt:137:1
+same-length : tie.Need-same-length Inv-loop μ-loop
+same-length c = omega arith
+
+-- src/lib.rt:137:1
+returns : tie.Need-returns Inv-loop μ-loop
+returns c =
+    let l = c .before .loop in
+    let x = c .before .before .before .before in
+    let a = x .before .before .before .args in
+    let e : l .k ≡ a .t1 .count = omega arith in
+    written-all (shapeOf (a .t1)) _ (now (a .out)) (l .out) (x .put-four .ensures) (rw e at (l .inv))
+
+pub put-pattern-spec : {M : Type 1} → statement M
+put-pattern-spec =
+    tie.close
+    (tie.spec
+    Inv-loop
+    μ-loop
+    mul-field
+    add-field
+    cast-put-four
+    cast-put-four-2
+    put-four-requires
+    loop-holds
+    mul-label
+    element-copy-out-label
+    mul-put-four
+    add-put-four
+    element-copy-out-put-four
+    element-copy-out-put-four-2
+    cast-put-four-3
+    cast-put-four-4
+    put-four-requires-2
+    add-k
+    loop-less
+    loop-again
+    same-length
+    returns)

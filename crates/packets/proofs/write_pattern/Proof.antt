@@ -1,0 +1,81 @@
+-- `packets::write_pattern` meets its contract: the rules, the room, and then the packet. Assumes nothing.
+use mathlib.Core.Path.{refl, subst}
+use mathlib.Core.Logic.{inl, inr, ⊎-elim}
+use native.Mathlib.Omega.{arith}
+use Rattle.tables.specs.Checks.{ChecksPattern}
+use Rattle.tables.specs.Pattern.{ValidPattern}
+use borrow.Author.Needs.{needs}
+use Rattle.packets.proofs.write_pattern.Statement.{statement}
+use Rattle.packets.proofs.write_pattern.Tie as tie
+use Rattle.packets.proofs.write_pattern.Reads as reads
+use Rattle.packets.proofs.write_pattern.Lts as lts
+use Rattle.packets.proofs.put_pattern.Reads as put-pattern-reads
+use Rattle.tables.proofs.check_pattern.Reads as check-pattern-reads
+
+-- src/lib.rt:157:34
+check-pattern-requires : tie.Need-check-pattern-requires
+check-pattern-requires c κs = search needs
+
+-- src/lib.rt:157:29
+enum-known-r : tie.Need-enum-known-r
+enum-known-r c = search needs
+
+-- past the first test the pattern obeys the rules
+valid : (x : tie.After-enum-told) → ValidPattern (x .before .before .before .before .args .p)
+valid x = subst (ChecksPattern (x .before .before .before .before .args .p)) (x .enum-told .given .1) (x .before .before .check-pattern .ensures) .0 .0
+
+-- src/lib.rt:158:9
+returns : tie.Need-returns
+returns c =
+    let k = c .before .before .before in
+    let v = subst (ChecksPattern (k .before .before .args .p)) (c .before .r .given .1) (k .check-pattern .ensures) in
+    (⊎-elim inl (λ w. absurd (w .1)) (v .0), refl)
+
+enum-told : tie.Need-enum-told
+enum-told c = search needs
+
+-- src/lib.rt:160:20
+mul-size : tie.Need-mul-size
+mul-size c = omega (arith, valid (c .before) .few)
+
+-- src/lib.rt:160:16
+add-size : tie.Need-add-size
+add-size c = omega (arith, valid (c .before) .few)
+
+-- src/lib.rt:160:16
+add-size-2 : tie.Need-add-size-2
+add-size-2 c = omega (arith, valid (c .before) .few)
+
+-- src/lib.rt:162:9
+returns-2 : tie.Need-returns-2
+returns-2 c = (inr (valid (c .before .before), inl ((λ h. omega arith), refl)), refl)
+
+-- src/lib.rt:164:5
+put-pattern-requires : tie.Need-put-pattern-requires
+put-pattern-requires c κs = (valid (c .before .before .before) .few, omega arith)
+
+-- src/lib.rt:154:1
+same-length : tie.Need-same-length
+same-length c = search needs
+
+-- src/lib.rt:154:1
+returns-3 : tie.Need-returns-3
+returns-3 c =
+    let x = c .before .before in
+    ((valid (x .before .before .before .before), (omega arith, tt)), (refl, x .put-pattern .ensures))
+
+pub write-pattern-spec : {M : Type 1} → statement M
+write-pattern-spec =
+    tie.close
+    (tie.spec
+    check-pattern-requires
+    enum-known-r
+    returns
+    enum-told
+    mul-size
+    add-size
+    add-size-2
+    returns-2
+    put-pattern-requires
+    same-length
+    returns-3)
