@@ -11,3 +11,4 @@ pub mod TurnDown
 pub mod Listed
 pub mod Stores
 pub mod Starts
+pub mod Finding

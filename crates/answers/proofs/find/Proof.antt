@@ -1,0 +1,52 @@
+use borrow.Author.Needs.{needs}
+use Rattle.answers.proofs.find.Statement.{statement}
+use Rattle.answers.proofs.find.Tie as tie
+use Rattle.answers.proofs.find.Reads as reads
+use Rattle.answers.proofs.find.Lts as lts
+use Rattle.answers.proofs.passes.descend.Reads as descend-reads
+use Rattle.answers.proofs.passes.rise.Reads as rise-reads
+
+-- src/lib.rt:23:16
+element-copy-out-seed : tie.Need-element-copy-out-seed
+element-copy-out-seed c = search needs
+
+-- src/lib.rt:23:16
+cast-seed : tie.Need-cast-seed
+cast-seed c = search needs
+
+-- src/lib.rt:24:5
+rise-requires : tie.Need-rise-requires
+rise-requires c κs = search needs
+
+-- src/lib.rt:25:5
+slice-write-work : tie.Need-slice-write-work
+slice-write-work c = search needs
+
+-- src/lib.rt:26:5
+descend-requires : tie.Need-descend-requires
+descend-requires c κs = ?
+
+-- src/lib.rt:17:1
+same-length : tie.Need-same-length
+same-length c = search needs
+
+-- src/lib.rt:17:1
+same-length-2 : tie.Need-same-length-2
+same-length-2 c = ?
+
+-- src/lib.rt:17:1
+returns : tie.Need-returns
+returns c = ?
+
+pub find-spec : {M : Type 1} → statement M
+find-spec =
+    tie.close
+    (tie.spec
+    element-copy-out-seed
+    cast-seed
+    rise-requires
+    slice-write-work
+    descend-requires
+    same-length
+    same-length-2
+    returns)
