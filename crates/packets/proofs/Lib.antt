@@ -2,4 +2,5 @@
 pub mod Halves
 pub mod PatternTrip
 pub mod Reading
+pub mod RoundTrip
 pub mod DocumentTrip

@@ -7,8 +7,8 @@ use native.Mathlib.Omega.{arith}
 use lib.ListN.{length, take}
 use lib.Seq.{take-at}
 use Rattle.tables.specs.Column.{column}
-use Rattle.tables.specs.Document.{Document, ValidDocument}
-use Rattle.tables.specs.Pattern.{shapeOf, patternOf, ValidShape, ValidPattern}
+use Rattle.tables.specs.Document.{ValidDocument}
+use Rattle.tables.specs.Pattern.{patternOf, ValidShape, ValidPattern}
 use Rattle.tables.specs.Refusal.{Check, Passes, Refuses, CountedBy}
 use Rattle.tables.specs.declared.Pattern.{Pattern}
 use Rattle.tables.specs.declared.Counted.{Counted}

@@ -2,15 +2,15 @@
 ghost use Prim.Native.Nat.{ℕ, _+_, _*_, _/_, _≤_, _<_};
 ghost use mathlib.Core.Path.{_≡_};
 ghost use mathlib.Core.List.{[], _∷_, _++_};
-ghost use lib.ListN.{length, getD, take, drop};
+ghost use lib.ListN.{length, take, drop};
 ghost use Rattle.tables.specs.Column.{column};
-ghost use Rattle.tables.specs.Pattern.{shapeOf, patternOf, ValidPattern};
-ghost use Rattle.tables.specs.Refusal.{Check, Decided, CountedBy};
+ghost use Rattle.tables.specs.Pattern.{shapeOf, patternOf};
+ghost use Rattle.tables.specs.Refusal.{CountedBy};
 ghost use Rattle.tables.specs.Checks.{ChecksDocument};
 ghost use Rattle.tables.specs.declared.Refusal.the-variants.{Length};
 ghost use Rattle.packets.specs.Bytes.{half};
 ghost use Rattle.packets.specs.PatternPacket.{patternPacket, packetShape, patternLength, patternChecks, ReadsPattern, WritesPattern};
-ghost use Rattle.packets.specs.DocumentPacket.{packetDocument, nodesIn, DocumentSized, ReadsDocument};
+ghost use Rattle.packets.specs.DocumentPacket.{packetDocument, nodesIn, ReadsDocument};
 use tables::Checked;
 use tables::Counted;
 use tables::Pattern;
@@ -38,13 +38,17 @@ fn half_at(s: &[u8], o: usize) -> u16
     wide(s[o]) * 256 + wide(s[o + 1])
 }
 
-// How many rows of four bytes a packet has, `most` at most, with `extra` bytes between its header and them.
-// Refused by Length, Version, Length, in this order.
+// How many rows of four bytes a packet has, `most` at most, with `extra` bytes between its header and them. Both kinds of packet start with the
+// same two checks. Refused by Length, Version, Length, in this order.
 fn rows_in(s: &[u8], extra: usize, most: usize) -> Counted
     requires { ⌜ extra < 4 ⌝ }
     ensures { λ r.
         ⌜ CountedBy (take 2 (patternChecks (now (s .entry)))
-        ++ (record { asks = (n : ℕ) × (1 ≤ n) × (n ≤ most) × (half (now (s .entry)) 1 ≡ extra + 4 * n) × (length (now (s .entry)) ≡ half (now (s .entry)) 1 + 3); gives = 2 } ∷ []))
+        ++ (record {
+          asks = (n : ℕ) × (1 ≤ n) × (n ≤ most) × (half (now (s .entry)) 1 ≡ extra + 4 * n)
+              × (length (now (s .entry)) ≡ half (now (s .entry)) 1 + 3);
+          gives = 2;
+        } ∷ []))
         r (λ n. n ≡ half (now (s .entry)) 1 / 4) (Unit {0}) ⌝ }
 {
     if s.len() < 3 {
@@ -70,7 +74,7 @@ fn rows_in(s: &[u8], extra: usize, most: usize) -> Counted
     Counted::Count(n)
 }
 
-// The pattern that a packet of n steps holds.
+// The pattern that a packet of n steps holds: zeros past its steps.
 fn pattern_in(s: &[u8], n: usize) -> Pattern
     requires { ⌜ (n ≤ 64) × (length (now s) ≡ 4 * n + 4) × (n ≡ half (now s) 1 / 4) ⌝ }
     ensures { λ r. ⌜ r ≡ patternOf (packetShape (now (s .entry))) ⌝ }
@@ -189,7 +193,7 @@ fn decode(s: &[u8], o: usize, n: usize, dst: &mut [u16])
     }
 }
 
-// Do the n nodes of a packet obey the rules?
+// Right exactly where the n nodes of a packet obey the rules: they are decoded into lists of this call's own.
 fn check_nodes(s: &[u8], n: usize) -> Checked
     requires { ⌜ (n ≤ 2048) × (length (now s) ≡ 4 * n + 3) × (n ≡ nodesIn (now s)) ⌝ }
     ensures { λ r. ⌜ ChecksDocument (packetDocument (now (s .entry))) r ⌝ }

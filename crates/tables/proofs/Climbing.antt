@@ -7,9 +7,9 @@ use mathlib.Core.List.{List}
 use native.Mathlib.Omega.{arith}
 use lib.ListN.{length, getD}
 use lib.Dec.{T, eqb}
-use Rattle.tables.specs.Tree.{Tree, Child, child, From, Hangs}
+use Rattle.tables.specs.Tree.{Tree, Child, Below, child, From, Hangs}
 use Rattle.tables.proofs.Trees.{below-lt-to, parent-lt-to, below-up, from-trans}
-use Rattle.tables.proofs.Tests.{Tells, tells-eq}
+use Rattle.tables.proofs.Tests.{tells-eq}
 
 -- the tree whose parents stand in a list
 abbrev pub listed : List ℕ → Tree
@@ -55,5 +55,8 @@ module _ (D : Tree) (root i : ℕ) (late : 0 < i) (here : i < D .size) (right : 
   pub climb-ends : {a : ℕ} → Climbs D i a → a ≤ D .parent i → T (eqb a (D .parent i)) ↔ Hangs D root i
   climb-ends {a} c l = (
     λ t. hangs-later D root i late .0 (subst (λ (x : ℕ). From D x (i - 1)) (tells-eq a (D .parent i) .says t) (c .came)),
-    λ h. tells-eq a (D .parent i) .test (⊎-elim (λ e. sym e) (λ b. absurd (omega (arith, below-lt-to (λ j m p q. climb-falls j p (omega (arith, c .low))) b))) (c .ahead (hangs-later D root i late .1 h))),
+    λ h. tells-eq a (D .parent i) .test (⊎-elim sym (λ b. absurd (omega (arith, past b))) (c .ahead (hangs-later D root i late .1 h))),
   )
+    where
+      past : Below D (D .parent i) a → D .parent i < a
+      past b = below-lt-to (λ j m p q. climb-falls j p (omega (arith, c .low))) b

@@ -6,7 +6,7 @@ ghost use mathlib.Core.Path.{_≡_};
 ghost use mathlib.Core.Logic.{_↔_};
 ghost use lib.ListN.{length, getD};
 ghost use lib.Dec.{T};
-ghost use Rattle.tables.specs.Tree.{Tree, Hangs};
+ghost use Rattle.tables.specs.Tree.{Hangs};
 ghost use Rattle.tables.specs.Pattern.{zeroPattern};
 ghost use Rattle.tables.specs.Checks.{ChecksDocument, ChecksPattern};
 
@@ -63,8 +63,8 @@ pub fn no_pattern() -> Pattern
     }
 }
 
-// Does node i hang on the node before it or on an ancestor of that, given that every node before it hangs right? The climb from node i - 1 ends at the
-// parent of node i, or passes it.
+// Does node i hang right, given that every node before it does? Its parent is the node before it or an ancestor of that, so the climb from node i - 1
+// ends at the parent, or else passes it.
 fn node_hangs(parents: &[u16], i: usize) -> bool
     requires { ⌜ i < length (now parents) ⌝ }
     requires { ⌜ ((k : ℕ) → k < i → Hangs (record { size = length (now parents); parent = λ j. getD (now parents) j 0 }) 65535 k) ⌝ }
@@ -81,7 +81,8 @@ fn node_hangs(parents: &[u16], i: usize) -> bool
     a == p
 }
 
-// Right exactly where the two lists are a document that obeys the rules; else refused by BadDocument.
+// Right exactly where the two lists are a document that obeys the rules; else refused by BadDocument. A node that one climb leaves behind is met by no
+// later climb.
 pub fn check_document(parents: &[u16], labels: &[u16]) -> Checked
     ensures { λ r. ⌜ ChecksDocument (record { parents = now (parents .entry); labels = now (labels .entry) }) r ⌝ }
 {
@@ -108,7 +109,7 @@ pub fn check_document(parents: &[u16], labels: &[u16]) -> Checked
     Checked::Right
 }
 
-// The same for step s: `parents` has an entry for each step of the pattern.
+// Does step s hang right, given that every step before it does? `parents` has an entry for each step; the climb is that of node_hangs.
 fn step_hangs(parents: &[u8], s: usize) -> bool
     requires { ⌜ s < length (now parents) ⌝ }
     requires { ⌜ ((k : ℕ) → k < s → Hangs (record { size = length (now parents); parent = λ j. getD (now parents) j 0 }) 255 k) ⌝ }

@@ -4,59 +4,45 @@ use native.Mathlib.Omega.{arith}
 use lib.ListN.{length-take}
 use denote.Ref.{now}
 use Rattle.tables.specs.Checks.{ChecksDocument}
-use Rattle.tables.specs.Document.{Document}
 use Rattle.packets.proofs.Reading.{document-fronts}
 use borrow.Author.Needs.{needs}
 use Rattle.packets.proofs.check_nodes.Statement.{statement}
 use Rattle.packets.proofs.check_nodes.Tie as tie
-use Rattle.packets.proofs.check_nodes.Reads as reads
-use Rattle.packets.proofs.check_nodes.Lts as lts
-use Rattle.packets.proofs.decode.Reads as decode-reads
-use Rattle.tables.proofs.check_document.Reads as check-document-reads
 
--- src/lib.rt:187:21
 slice-aggregate-decode : tie.Need-slice-aggregate-decode
 slice-aggregate-decode c = search needs
 
--- src/lib.rt:187:5
 decode-requires : tie.Need-decode-requires
 decode-requires c κs = search needs
 
--- src/lib.rt:188:21
 slice-aggregate-decode-2 : tie.Need-slice-aggregate-decode-2
 slice-aggregate-decode-2 c = search needs
 
--- src/lib.rt:188:5
 decode-requires-2 : tie.Need-decode-requires-2
 decode-requires-2 c κs = search needs
 
--- src/lib.rt:189:28
 array-share-prefix-parents : tie.Need-array-share-prefix-parents
 array-share-prefix-parents c = search needs
 
--- src/lib.rt:189:28
 slice-aggregate-check-document : tie.Need-slice-aggregate-check-document
 slice-aggregate-check-document c = simp length-take (omega arith)
 
--- src/lib.rt:189:43
 array-share-prefix-labels : tie.Need-array-share-prefix-labels
 array-share-prefix-labels c = search needs
 
--- src/lib.rt:189:43
 slice-aggregate-check-document-2 : tie.Need-slice-aggregate-check-document-2
 slice-aggregate-check-document-2 c = simp length-take (omega arith)
 
--- src/lib.rt:189:5
 check-document-requires : tie.Need-check-document-requires
 check-document-requires c κs = search needs
 
--- src/lib.rt:181:1
 returns : tie.Need-returns
 returns c =
     let b = c .before .before .before .before in
     let a = b .before .before .before in
     let x = a .before .before .before in
-    subst (λ d. ChecksDocument d (c .check-document .result)) (document-fronts (now (x .args .s)) _ _ _ _ (x .args .n) (x .pre .2) (a .decode .ensures) (b .decode2 .ensures)) (c .check-document .ensures)
+    let e = document-fronts (now (x .args .s)) _ _ _ _ (x .args .n) (x .pre .2) (a .decode .ensures) (b .decode2 .ensures) in
+    subst (λ d. ChecksDocument d (c .check-document .result)) e (c .check-document .ensures)
 
 pub check-nodes-spec : {M : Type 1} → statement M
 check-nodes-spec =

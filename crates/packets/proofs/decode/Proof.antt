@@ -1,5 +1,5 @@
 -- `packets::decode` meets its contract: the numbers before the one looked at stand in the list, which keeps its other entries. Assumes nothing.
-use Prim.Native.Nat.{ℕ, _+_, _*_, _-_, _≤_}
+use Prim.Native.Nat.{_+_, _*_, _-_, _≤_}
 use mathlib.Core.Path.{_≡_}
 use mathlib.Core.List.{_++_}
 use native.Mathlib.Omega.{arith}
@@ -11,9 +11,6 @@ use Rattle.tables.proofs.Columns.{column-next}
 use Rattle.packets.specs.Bytes.{half}
 use Rattle.packets.proofs.decode.Statement.{statement}
 use Rattle.packets.proofs.decode.Tie as tie
-use Rattle.packets.proofs.decode.Reads as reads
-use Rattle.packets.proofs.decode.Lts as lts
-use Rattle.packets.proofs.half_at.Reads as half-at-reads
 
 abbrev Inv-loop : tie.InvT-loop
 Inv-loop s o n dst₀ k₀ dst k = (k ≤ n) × (length dst ≡ length dst₀) × (dst ≡ column (λ i. half s (o + 4 * i)) k ++ drop k dst₀)
@@ -21,40 +18,31 @@ Inv-loop s o n dst₀ k₀ dst k = (k ≤ n) × (length dst ≡ length dst₀) �
 abbrev μ-loop : tie.MeasureT-loop
 μ-loop s o n dst₀ k₀ dst k = n - k
 
--- src/lib.rt:174:5
 loop-holds : tie.Need-loop-holds Inv-loop μ-loop
 unfolding blocks
 loop-holds c = search needs
 
--- src/lib.rt:175:33
 mul-half-at : tie.Need-mul-half-at Inv-loop μ-loop
 mul-half-at c = search needs
 
--- src/lib.rt:175:29
 add-half-at : tie.Need-add-half-at Inv-loop μ-loop
 add-half-at c = search needs
 
--- src/lib.rt:175:18
 half-at-requires : tie.Need-half-at-requires Inv-loop μ-loop
 half-at-requires c κs = search needs
 
--- src/lib.rt:175:9
 mul-dst : tie.Need-mul-dst Inv-loop μ-loop
 mul-dst c = search needs
 
--- src/lib.rt:175:9
 slice-write-dst : tie.Need-slice-write-dst Inv-loop μ-loop
 slice-write-dst c = search needs
 
--- src/lib.rt:176:9
 add-k : tie.Need-add-k Inv-loop μ-loop
 add-k c = search needs
 
--- src/lib.rt:174:5
 loop-less : tie.Need-loop-less Inv-loop μ-loop
 loop-less c = search needs
 
--- src/lib.rt:174:5
 loop-again : tie.Need-loop-again Inv-loop μ-loop
 loop-again c =
     let v = c .before .before .loop .inv in
@@ -64,11 +52,9 @@ loop-again c =
       rw (v .2) (column-next (λ i. half (now (x .s)) (x .o + 4 * i)) (now (x .dst)) (c .before .before .loop .k) (c .half-at .result) (omega arith) (c .half-at .ensures)),
     )
 
--- src/lib.rt:169:1
 same-length : tie.Need-same-length Inv-loop μ-loop
 same-length c = search needs
 
--- src/lib.rt:169:1
 returns : tie.Need-returns Inv-loop μ-loop
 returns c =
     let e : c .before .loop .k ≡ c .before .before .before .before .args .n = omega arith in

@@ -1,11 +1,10 @@
 -- `packets::pattern_in` meets its contract: the steps before the one looked at stand in the three arrays, with zeros after them. Assumes nothing.
 use Prim.Native.Nat.{ℕ, _+_, _*_, _/_, _-_, _≤_}
-use mathlib.Core.Path.{_≡_, refl, _∙_}
+use mathlib.Core.Path.{_≡_, refl}
 use mathlib.Core.List.{List}
 use native.Mathlib.Omega.{arith}
 use lib.ListN.{getD}
 use denote.Ref.{now}
-use borrow.Author.Needs.{needs}
 use Rattle.tables.specs.Column.{blocks, padded}
 use Rattle.tables.specs.Pattern.{tableOf, patternOf}
 use Rattle.tables.specs.declared.Pattern.{Pattern}
@@ -15,9 +14,6 @@ use Rattle.packets.specs.Bytes.{half}
 use Rattle.packets.specs.PatternPacket.{packetShape}
 use Rattle.packets.proofs.pattern_in.Statement.{statement}
 use Rattle.packets.proofs.pattern_in.Tie as tie
-use Rattle.packets.proofs.pattern_in.Reads as reads
-use Rattle.packets.proofs.pattern_in.Lts as lts
-use Rattle.packets.proofs.half_at.Reads as half-at-reads
 
 -- the first k of the n steps are read
 record Filled (bs : List ℕ) (n k : ℕ) (p : Pattern) : Type 0 where
@@ -34,76 +30,58 @@ Inv-loop s n p₀ k₀ p k = Filled s n k p
 abbrev μ-loop : tie.MeasureT-loop
 μ-loop s n p₀ k₀ p k = n - k
 
--- src/lib.rt:85:24
 shared-slice-read-t10 : tie.Need-shared-slice-read-t10 Inv-loop μ-loop
 shared-slice-read-t10 c = omega arith
 
--- src/lib.rt:88:5
 loop-holds : tie.Need-loop-holds Inv-loop μ-loop
 unfolding blocks
 loop-holds c = record { low = omega arith; count = refl; output = refl; parents = refl; axes = refl; labels = refl }
 
--- src/lib.rt:89:29
 mul-p : tie.Need-mul-p Inv-loop μ-loop
 mul-p c = omega arith
 
--- src/lib.rt:89:25
 add-p : tie.Need-add-p Inv-loop μ-loop
 add-p c = omega arith
 
--- src/lib.rt:89:23
 shared-slice-read-p : tie.Need-shared-slice-read-p Inv-loop μ-loop
 shared-slice-read-p c = omega arith
 
--- src/lib.rt:89:9
 element-write-p : tie.Need-element-write-p Inv-loop μ-loop
 element-write-p c = omega arith
 
--- src/lib.rt:90:27
 mul-p-2 : tie.Need-mul-p-2 Inv-loop μ-loop
 mul-p-2 c = omega arith
 
--- src/lib.rt:90:23
 add-p-2 : tie.Need-add-p-2 Inv-loop μ-loop
 add-p-2 c = omega arith
 
--- src/lib.rt:90:21
 shared-slice-read-p-2 : tie.Need-shared-slice-read-p-2 Inv-loop μ-loop
 shared-slice-read-p-2 c = omega arith
 
--- src/lib.rt:90:9
 element-write-p-2 : tie.Need-element-write-p-2 Inv-loop μ-loop
 element-write-p-2 c = omega arith
 
--- src/lib.rt:91:36
 mul-half-at : tie.Need-mul-half-at Inv-loop μ-loop
 mul-half-at c = omega arith
 
--- src/lib.rt:91:32
 add-half-at : tie.Need-add-half-at Inv-loop μ-loop
 add-half-at c = omega arith
 
--- src/lib.rt:91:13
 half-at-requires : tie.Need-half-at-requires Inv-loop μ-loop
 half-at-requires c κs = omega arith
 
--- src/lib.rt:92:9
 mul-p-3 : tie.Need-mul-p-3 Inv-loop μ-loop
 mul-p-3 c = omega arith
 
--- src/lib.rt:92:9
 element-write-p-3 : tie.Need-element-write-p-3 Inv-loop μ-loop
 element-write-p-3 c = omega arith
 
--- src/lib.rt:93:9
 add-k : tie.Need-add-k Inv-loop μ-loop
 add-k c = omega arith
 
--- src/lib.rt:88:5
 loop-less : tie.Need-loop-less Inv-loop μ-loop
 loop-less c = omega arith
 
--- src/lib.rt:88:5
 loop-again : tie.Need-loop-again Inv-loop μ-loop
 loop-again c =
     let l = c .before .before .before .before .loop in
@@ -117,7 +95,6 @@ loop-again c =
       labels = padded-next (λ s. half bs (6 + 4 * s)) _ (l .k) _ (omega arith) (c .half-at .ensures) (l .inv .labels);
     }
 
--- src/lib.rt:76:1
 returns : tie.Need-returns Inv-loop μ-loop
 unfolding patternOf tableOf packetShape
 returns c =

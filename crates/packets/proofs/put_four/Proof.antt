@@ -9,42 +9,31 @@ use denote.Ref.{now}
 use borrow.Author.Needs.{needs}
 use Rattle.packets.proofs.put_four.Statement.{statement}
 use Rattle.packets.proofs.put_four.Tie as tie
-use Rattle.packets.proofs.put_four.Reads as reads
-use Rattle.packets.proofs.put_four.Lts as lts
 
--- src/lib.rt:130:5
 slice-write-out : tie.Need-slice-write-out
 slice-write-out c = search needs
 
--- src/lib.rt:131:9
 add-out : tie.Need-add-out
 add-out c = search needs
 
--- src/lib.rt:131:5
 slice-write-out-2 : tie.Need-slice-write-out-2
 slice-write-out-2 c = simp length-set (omega arith)
 
--- src/lib.rt:132:9
 add-out-2 : tie.Need-add-out-2
 add-out-2 c = search needs
 
--- src/lib.rt:132:5
 slice-write-out-3 : tie.Need-slice-write-out-3
 slice-write-out-3 c = simp length-set (omega arith)
 
--- src/lib.rt:133:9
 add-out-3 : tie.Need-add-out-3
 add-out-3 c = search needs
 
--- src/lib.rt:133:5
 slice-write-out-4 : tie.Need-slice-write-out-4
 slice-write-out-4 c = simp length-set (omega arith)
 
--- src/lib.rt:126:1
 same-length : tie.Need-same-length
 same-length c = search needs
 
--- src/lib.rt:126:1
 returns : tie.Need-returns
 returns c =
     let x = c .args in

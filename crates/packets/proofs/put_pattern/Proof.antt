@@ -18,9 +18,6 @@ use Rattle.packets.proofs.Halves.{packet-length}
 use Rattle.packets.proofs.PatternTrip.{head, step-four}
 use Rattle.packets.proofs.put_pattern.Statement.{statement}
 use Rattle.packets.proofs.put_pattern.Tie as tie
-use Rattle.packets.proofs.put_pattern.Reads as reads
-use Rattle.packets.proofs.put_pattern.Lts as lts
-use Rattle.packets.proofs.put_four.Reads as put-four-reads
 
 -- the header and the first k steps are written over d
 record Written (A : Shape) (d : List ℕ) (k : ℕ) (out : List ℕ) : Type 0 where
@@ -60,80 +57,62 @@ Inv-loop out₀ p n field k₀ out k = Written (shapeOf p) out₀ k out
 abbrev μ-loop : tie.MeasureT-loop
 μ-loop out₀ p n field k₀ out k = n - k
 
--- src/lib.rt:142:21
 mul-field : tie.Need-mul-field Inv-loop μ-loop
 mul-field c = omega arith
 
--- src/lib.rt:142:17
 add-field : tie.Need-add-field Inv-loop μ-loop
 add-field c = omega arith
 
--- src/lib.rt:143:25
 cast-put-four : tie.Need-cast-put-four Inv-loop μ-loop
 cast-put-four c = omega arith
 
--- src/lib.rt:143:46
 cast-put-four-2 : tie.Need-cast-put-four-2 Inv-loop μ-loop
 cast-put-four-2 c = omega arith
 
--- src/lib.rt:143:5
 put-four-requires : tie.Need-put-four-requires Inv-loop μ-loop
 put-four-requires c κs = omega arith
 
--- src/lib.rt:145:5
 loop-holds : tie.Need-loop-holds Inv-loop μ-loop
 loop-holds c =
     let x = c .before .before in
     written-head (shapeOf (x .before .before .before .args .t1)) _ (now (x .before .before .before .args .out)) (x .put-four .ensures)
 
--- src/lib.rt:146:21
 mul-label : tie.Need-mul-label Inv-loop μ-loop
 mul-label c = omega arith
 
--- src/lib.rt:146:21
 element-copy-out-label : tie.Need-element-copy-out-label Inv-loop μ-loop
 element-copy-out-label c = omega arith
 
--- src/lib.rt:147:27
 mul-put-four : tie.Need-mul-put-four Inv-loop μ-loop
 mul-put-four c = omega arith
 
--- src/lib.rt:147:23
 add-put-four : tie.Need-add-put-four Inv-loop μ-loop
 add-put-four c = omega arith
 
--- src/lib.rt:147:34
 element-copy-out-put-four : tie.Need-element-copy-out-put-four Inv-loop μ-loop
 element-copy-out-put-four c = omega arith
 
--- src/lib.rt:147:47
 element-copy-out-put-four-2 : tie.Need-element-copy-out-put-four-2 Inv-loop μ-loop
 element-copy-out-put-four-2 c = omega arith
 
--- src/lib.rt:147:58
 cast-put-four-3 : tie.Need-cast-put-four-3 Inv-loop μ-loop
 cast-put-four-3 c =
     let p = c .before .before .before .before .before .before .before .before .before .before .before .args .t1 in
     let f : Fits w16 (getD (p .label) (c .before .before .before .before .before .loop .k) 0) = search needs in
     omega arith
 
--- src/lib.rt:147:79
 cast-put-four-4 : tie.Need-cast-put-four-4 Inv-loop μ-loop
 cast-put-four-4 c = omega arith
 
--- src/lib.rt:147:9
 put-four-requires-2 : tie.Need-put-four-requires-2 Inv-loop μ-loop
 put-four-requires-2 c κs = omega arith
 
--- src/lib.rt:148:9
 add-k : tie.Need-add-k Inv-loop μ-loop
 add-k c = omega arith
 
--- src/lib.rt:145:5
 loop-less : tie.Need-loop-less Inv-loop μ-loop
 loop-less c = omega arith
 
--- src/lib.rt:145:5
 loop-again : tie.Need-loop-again Inv-loop μ-loop
 unfolding stepBytes
 loop-again c =
@@ -142,11 +121,9 @@ loop-again c =
     let p = x .before .before .before .before .before .before .before .before .before .before .before .before .args .t1 in
     written-next (shapeOf p) _ (l .k) (l .out) _ (omega arith) (x .put-four2 .kept .0) (x .put-four2 .ensures) (l .inv)
 
--- src/lib.rt:137:1
 same-length : tie.Need-same-length Inv-loop μ-loop
 same-length c = omega arith
 
--- src/lib.rt:137:1
 returns : tie.Need-returns Inv-loop μ-loop
 returns c =
     let l = c .before .loop in

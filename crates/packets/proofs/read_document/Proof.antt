@@ -1,5 +1,5 @@
 -- `packets::read_document` meets its contract: the header's checks, the document's, the room, and then the two lists. Assumes nothing.
-use Prim.Native.Nat.{ℕ, _+_, _*_}
+use Prim.Native.Nat.{_+_, _*_}
 use mathlib.Core.Path.{refl, ap, _∙_, subst}
 use mathlib.Core.List.{_++_}
 use native.Mathlib.Omega.{arith}
@@ -15,11 +15,6 @@ use Rattle.packets.proofs.Reading.{Headed, document-head-refuses, docum
 use borrow.Author.Needs.{needs}
 use Rattle.packets.proofs.read_document.Statement.{statement}
 use Rattle.packets.proofs.read_document.Tie as tie
-use Rattle.packets.proofs.read_document.Reads as reads
-use Rattle.packets.proofs.read_document.Lts as lts
-use Rattle.packets.proofs.check_nodes.Reads as check-nodes-reads
-use Rattle.packets.proofs.decode.Reads as decode-reads
-use Rattle.packets.proofs.rows_in.Reads as rows-in-reads
 
 -- the entry, seen from where the nodes are counted
 abbrev entry : tie.After-n → tie.Start
@@ -36,37 +31,30 @@ counted y = y .before .before .before .before
 valid : (y : tie.After-enum-told) → ValidDocument (packetDocument (now (entry (counted y) .args .s)))
 valid y = subst (ChecksDocument (packetDocument (now (entry (counted y) .args .s)))) (y .enum-told .given .1) (y .before .before .check-nodes .ensures) .0 .0
 
--- src/lib.rt:197:19
 rows-in-requires : tie.Need-rows-in-requires
 rows-in-requires c κs = search needs
 
--- src/lib.rt:198:24
 enum-known-n : tie.Need-enum-known-n
 enum-known-n c = search needs
 
--- src/lib.rt:199:26
 enum-known-r : tie.Need-enum-known-r
 enum-known-r c = search needs
 
--- src/lib.rt:199:32
 returns : tie.Need-returns
 returns c =
     let a = c .before .before .before .before .before .before .before .args in
     let h = subst (Headed (now (a .s)) 0 2048) (c .before .r .given .1) (c .before .before .before .rows-in .ensures) in
     (document-head-refuses (now (a .s)) _ _ (c .before .r .given .0 .0) (h .0), (refl, refl))
 
--- src/lib.rt:201:34
 check-nodes-requires : tie.Need-check-nodes-requires
 check-nodes-requires c κs =
     let h = headed (c .before) in
     let z = h .0 .1 .1 .0 in
     (omega (arith, z .2, z .3, h .1), omega (arith, z .3, z .4, h .1), h .1)
 
--- src/lib.rt:201:29
 enum-known-r-2 : tie.Need-enum-known-r-2
 enum-known-r-2 c = search needs
 
--- src/lib.rt:202:9
 returns-2 : tie.Need-returns-2
 returns-2 c =
     let x = c .before .before .before .before .before in
@@ -76,21 +64,18 @@ returns-2 c =
 enum-told : tie.Need-enum-told
 enum-told c = search needs
 
--- src/lib.rt:205:9
 returns-3 : tie.Need-returns-3
 returns-3 c =
     let y = c .before in
     let x = counted y in
     (document-room-refuses (now (entry x .args .s)) _ _ (headed x .0) (valid y) (λ w. omega (arith, headed x .1, w .0)), (refl, refl))
 
--- src/lib.rt:208:9
 returns-4 : tie.Need-returns-4
 returns-4 c =
     let y = c .before .before in
     let x = counted y in
     (document-room-refuses (now (entry x .args .s)) _ _ (headed x .0) (valid y) (λ w. omega (arith, headed x .1, w .1)), (refl, refl))
 
--- src/lib.rt:210:5
 decode-requires : tie.Need-decode-requires
 decode-requires c κs =
     let x = counted (c .before .before .before) in
@@ -98,7 +83,6 @@ decode-requires c κs =
     let z = h .0 .1 .1 .0 in
     (omega arith, omega (arith, z .2, z .3, h .1), omega arith, omega (arith, z .3, z .4, h .1))
 
--- src/lib.rt:211:5
 decode-requires-2 : tie.Need-decode-requires-2
 decode-requires-2 c κs =
     let x = counted (c .before .before .before .before .before .before .before) in
@@ -106,15 +90,12 @@ decode-requires-2 c κs =
     let z = h .0 .1 .1 .0 in
     (omega arith, omega (arith, z .2, z .3, h .1), omega arith, omega (arith, z .3, z .4, h .1))
 
--- src/lib.rt:194:1
 same-length : tie.Need-same-length
 same-length c = search needs
 
--- src/lib.rt:194:1
 same-length-2 : tie.Need-same-length-2
 same-length-2 c = search needs
 
--- src/lib.rt:194:1
 returns-5 : tie.Need-returns-5
 unfolding packetDocument
 returns-5 c =

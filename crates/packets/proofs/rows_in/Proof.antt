@@ -9,11 +9,7 @@ use Rattle.tables.specs.declared.Refusal.the-variants.{Version, Length}
 use borrow.Author.Needs.{needs}
 use Rattle.packets.proofs.rows_in.Statement.{statement}
 use Rattle.packets.proofs.rows_in.Tie as tie
-use Rattle.packets.proofs.rows_in.Reads as reads
-use Rattle.packets.proofs.rows_in.Lts as lts
-use Rattle.packets.proofs.half_at.Reads as half-at-reads
 
--- src/lib.rt:53:9
 -- the length is what refuses
 unsized : {A B X : Type 0} → A → B → (X → ⊥)
     → Refuses (record { asks = A; gives = 2 } ∷ record { asks = B; gives = 1 } ∷ record { asks = X; gives = 2 } ∷ []) Length × Unit {0}
@@ -22,43 +18,33 @@ unsized a b h = (inr (a, inr (b, inl (h, refl))), tt)
 returns : tie.Need-returns
 returns c = (inl ((λ h. omega arith), refl), tt)
 
--- src/lib.rt:55:8
 shared-slice-read-if2 : tie.Need-shared-slice-read-if2
 shared-slice-read-if2 c = search needs
 
--- src/lib.rt:56:9
 returns-2 : tie.Need-returns-2
 returns-2 c = (inr (omega arith, inl ((λ h. omega arith), refl)), tt)
 
--- src/lib.rt:58:17
 half-at-requires : tie.Need-half-at-requires
 half-at-requires c κs = search needs
 
--- src/lib.rt:58:17
 cast-field : tie.Need-cast-field
 cast-field c = search needs
 
--- src/lib.rt:61:9
 returns-3 : tie.Need-returns-3
 returns-3 c = unsized (omega arith) (omega arith) (λ z. omega arith)
 
--- src/lib.rt:64:9
 returns-4 : tie.Need-returns-4
 returns-4 c = unsized (omega arith) (omega arith) (λ z. omega arith)
 
--- src/lib.rt:67:9
 returns-5 : tie.Need-returns-5
 returns-5 c = unsized (omega arith) (omega arith) (λ z. omega arith)
 
--- src/lib.rt:69:19
 add-if6 : tie.Need-add-if6
 add-if6 c = search needs
 
--- src/lib.rt:70:9
 returns-6 : tie.Need-returns-6
 returns-6 c = unsized (omega arith) (omega arith) (λ z. omega arith)
 
--- src/lib.rt:43:1
 returns-7 : tie.Need-returns-7
 returns-7 c = ((omega arith, (omega arith, ((c .before .before .before .before .half-at .result / 4, omega arith, omega arith, omega arith, omega arith), tt))), omega arith)
 

@@ -7,16 +7,10 @@ use Rattle.tables.specs.Pattern.{ValidPattern}
 use borrow.Author.Needs.{needs}
 use Rattle.packets.proofs.write_pattern.Statement.{statement}
 use Rattle.packets.proofs.write_pattern.Tie as tie
-use Rattle.packets.proofs.write_pattern.Reads as reads
-use Rattle.packets.proofs.write_pattern.Lts as lts
-use Rattle.packets.proofs.put_pattern.Reads as put-pattern-reads
-use Rattle.tables.proofs.check_pattern.Reads as check-pattern-reads
 
--- src/lib.rt:157:34
 check-pattern-requires : tie.Need-check-pattern-requires
 check-pattern-requires c κs = search needs
 
--- src/lib.rt:157:29
 enum-known-r : tie.Need-enum-known-r
 enum-known-r c = search needs
 
@@ -24,7 +18,6 @@ enum-known-r c = search needs
 valid : (x : tie.After-enum-told) → ValidPattern (x .before .before .before .before .args .p)
 valid x = subst (ChecksPattern (x .before .before .before .before .args .p)) (x .enum-told .given .1) (x .before .before .check-pattern .ensures) .0 .0
 
--- src/lib.rt:158:9
 returns : tie.Need-returns
 returns c =
     let k = c .before .before .before in
@@ -34,31 +27,24 @@ returns c =
 enum-told : tie.Need-enum-told
 enum-told c = search needs
 
--- src/lib.rt:160:20
 mul-size : tie.Need-mul-size
 mul-size c = omega (arith, valid (c .before) .few)
 
--- src/lib.rt:160:16
 add-size : tie.Need-add-size
 add-size c = omega (arith, valid (c .before) .few)
 
--- src/lib.rt:160:16
 add-size-2 : tie.Need-add-size-2
 add-size-2 c = omega (arith, valid (c .before) .few)
 
--- src/lib.rt:162:9
 returns-2 : tie.Need-returns-2
 returns-2 c = (inr (valid (c .before .before), inl ((λ h. omega arith), refl)), refl)
 
--- src/lib.rt:164:5
 put-pattern-requires : tie.Need-put-pattern-requires
 put-pattern-requires c κs = (valid (c .before .before .before) .few, omega arith)
 
--- src/lib.rt:154:1
 same-length : tie.Need-same-length
 same-length c = search needs
 
--- src/lib.rt:154:1
 returns-3 : tie.Need-returns-3
 returns-3 c =
     let x = c .before .before in

@@ -1,17 +1,12 @@
 -- `tables::check_document` meets its contract: every node before the one looked at obeys its rule. Assumes nothing.
 use Prim.Native.Nat.{ℕ, _-_, _≤_, _<_}
-use mathlib.Core.List.{List}
-use mathlib.Core.Path.{refl}
-use mathlib.Core.Logic.{inl}
 use native.Mathlib.Omega.{arith}
-use lib.ListN.{length, getD}
-use denote.Ref.{now}
 use borrow.Author.Needs.{needs}
 use borrow.Author.Count.{below-more}
 use Rattle.tables.specs.declared.Refusal.the-variants.{BadDocument}
 use Rattle.tables.proofs.Refusals.{refused}
 use Rattle.tables.proofs.Tests.{passed, failed}
-use Rattle.tables.specs.Document.{Document, NodeRule, ValidDocument}
+use Rattle.tables.specs.Document.{NodeRule}
 use Rattle.tables.proofs.check_document.Statement.{statement}
 use Rattle.tables.proofs.check_document.Tie as tie
 

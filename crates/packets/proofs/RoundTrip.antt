@@ -1,0 +1,40 @@
+-- The two calls on pattern packets, one after the other, by their contracts alone: what is read writes as the same bytes, and what is written reads as
+-- the same pattern. Assumes nothing.
+use Prim.Native.Nat.{ℕ}
+use mathlib.Core.Path.{_≡_, sym, ap, _∙_, subst}
+use mathlib.Core.List.{List}
+use lib.ListN.{length, take, drop}
+use lib.Seq.{take-at}
+use Rattle.tables.specs.Pattern.{shapeOf, patternOf, zeroPattern, ValidPattern, Clean}
+use Rattle.tables.specs.Refusal.{Decided}
+use Rattle.tables.specs.declared.Pattern.{Pattern}
+use Rattle.tables.specs.declared.Checked.the-variants.{Right}
+use Rattle.tables.specs.declared.Counted.the-variants.{Count}
+use Rattle.packets.specs.Bytes.{Bytes}
+use Rattle.packets.specs.PatternPacket.{patternPacket, packetShape, patternChecks, ReadsPattern, WritesPattern}
+use Rattle.packets.specs.declared.PatternRead.{PatternRead}
+use Rattle.packets.proofs.PatternTrip.{pattern-packet-length, pattern-packet-passes, read-then-written, written-then-read, reads-pattern-unique}
+
+-- the bytes that writing counts are the packet
+written-front : (p : Pattern) (before after : List ℕ) (c : ℕ) → WritesPattern p before (Count c) after → take c after ≡ patternPacket (shapeOf p)
+written-front p before after c w =
+    ap (take c) (w .1 .1) ∙ take-at (patternPacket (shapeOf p)) (drop c before) c (pattern-packet-length (shapeOf p) ∙ sym (w .1 .0))
+
+-- a packet that is read, and the pattern written, gives the same bytes
+pub read-then-write : (bs : List ℕ) (r : PatternRead) (before after : List ℕ) (c : ℕ) → Bytes bs → ReadsPattern bs r → r .answer ≡ Right
+    → WritesPattern (r .pattern) before (Count c) after → (take c after ≡ bs) × (c ≡ length bs)
+read-then-write bs r before after c b h e w =
+    let d = subst (λ a. Decided (patternChecks bs) a (r .pattern ≡ patternOf (packetShape bs)) (r .pattern ≡ zeroPattern)) e h in
+    let same : patternPacket (shapeOf (r .pattern)) ≡ bs = ap (λ p. patternPacket (shapeOf p)) (d .1) ∙ read-then-written bs b (d .0) in
+    (written-front (r .pattern) before after c w ∙ same, w .1 .0 ∙ sym (pattern-packet-length (shapeOf (r .pattern))) ∙ ap length same)
+
+-- a pattern that is written, and the bytes read, gives the same pattern
+pub write-then-read : (p : Pattern) (before after : List ℕ) (c : ℕ) (r : PatternRead) → Clean p → WritesPattern p before (Count c) after
+    → ReadsPattern (take c after) r → (r .answer ≡ Right) × (r .pattern ≡ p)
+write-then-read p before after c r k w h =
+    let v : ValidPattern p = w .0 .0 in
+    let bs : List ℕ = patternPacket (shapeOf p) in
+    let is : PatternRead = record { answer = Right; pattern = p } in
+    let g : ReadsPattern bs r = subst (λ xs. ReadsPattern xs r) (written-front p before after c w) h in
+    let e : r ≡ is = reads-pattern-unique bs r is g (pattern-packet-passes v, sym (written-then-read p v k)) in
+    (ap (λ x. x .answer) e, ap (λ x. x .pattern) e)
