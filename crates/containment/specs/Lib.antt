@@ -2,3 +2,4 @@
 pub mod Mapping
 pub mod Witness
 pub mod Containment
+pub mod Verdict

@@ -15,3 +15,16 @@ pub struct ContainmentAnswer {
     pub answer: Containment,
     pub mapping: [StepNo; 64],
 }
+
+// Contained, apart or refused: the verdict alone, with no witness.
+pub enum Verdict {
+    Contained,
+    Apart,
+    Refused(Refusal),
+}
+
+// The verdict, and beside it the mapping, all zero where the verdict is not `Contained`.
+pub struct VerdictAnswer {
+    pub answer: Verdict,
+    pub mapping: [StepNo; 64],
+}
