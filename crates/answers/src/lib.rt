@@ -38,3 +38,52 @@ fn find_started(p: Pattern, parents: &[u16], labels: &[u16], starts: &[u16], lis
     passes::mark_starts(starts, parents.len(), work);
     passes::descend(p, parents, labels, work, list)
 }
+
+// The answers of a pattern in a document: counted, and ascending at the front of `list`; the entries of `list` past them stay. Entries 2i and 2i + 1 of `work` become
+// the steps that fit at node i and those that stand there in a whole placement; the entries past the nodes' stay.
+// Refused by 3 (the pattern), 4 (the document), 5 (a list too short), in this order; then both lists stay as they were.
+pub fn answers(p: Pattern, parents: &[u16], labels: &[u16], list: &mut [u16], work: &mut [u64]) -> Counted
+    ensures { λ r. ⌜ FindsAnswers p (record { parents = now (parents .entry); labels = now (labels .entry) }) (now (list .entry)) (now (work .entry)) r (now (list .exit)) (now (work .exit)) ⌝ }
+{
+    if let Checked::Refused(r) = tables::check_pattern(p) {
+        return Counted::Refused(r);
+    }
+    if let Checked::Refused(r) = tables::check_document(parents, labels) {
+        return Counted::Refused(r);
+    }
+    let n = parents.len();
+    if list.len() < n {
+        return Counted::Refused(Refusal::Room);
+    }
+    if work.len() / 2 < n {
+        return Counted::Refused(Refusal::Room);
+    }
+    Counted::Count(find(p, parents, labels, list, work))
+}
+
+// The same with step 0 at any node of `starts`, which may be empty: the pattern's step 0 must have axis child, and `starts` must be strictly ascending node numbers.
+// Refused by 3, 4, 6 (the axis of step 0, or the start list), 5, in this order; then both lists stay as they were.
+pub fn started(p: Pattern, parents: &[u16], labels: &[u16], starts: &[u16], list: &mut [u16], work: &mut [u64]) -> Counted
+    ensures { λ r. ⌜ FindsStarted p (record { parents = now (parents .entry); labels = now (labels .entry) }) (now (starts .entry)) (now (list .entry)) (now (work .entry)) r (now (list .exit)) (now (work .exit)) ⌝ }
+{
+    if let Checked::Refused(r) = tables::check_pattern(p) {
+        return Counted::Refused(r);
+    }
+    if let Checked::Refused(r) = tables::check_document(parents, labels) {
+        return Counted::Refused(r);
+    }
+    let n = parents.len();
+    if p.axis[0] != 0 {
+        return Counted::Refused(Refusal::Start);
+    }
+    if !passes::starts_right(starts, n) {
+        return Counted::Refused(Refusal::Start);
+    }
+    if list.len() < n {
+        return Counted::Refused(Refusal::Room);
+    }
+    if work.len() / 2 < n {
+        return Counted::Refused(Refusal::Room);
+    }
+    Counted::Count(find_started(p, parents, labels, starts, list, work))
+}
