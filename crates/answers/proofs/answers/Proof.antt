@@ -28,7 +28,6 @@ documented y =
     let s = y .before .before .before .before .before .before .before .before .before .before in
     subst (ChecksDocument (record { parents = now (s .args .parents); labels = now (s .args .labels) })) (y .enum-told2 .given .1) (y .before .before .check-document .ensures) .0 .0
 
-
 -- src/lib.rt:48:34
 check-pattern-requires : tie.Need-check-pattern-requires
 check-pattern-requires c κs = search needs
