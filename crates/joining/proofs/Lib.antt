@@ -6,3 +6,4 @@ pub mod Order
 pub mod Started
 pub mod Unique
 pub mod Assoc
+pub mod Called

@@ -1,5 +1,7 @@
 -- The theory of rewriting. Assumes nothing.
 pub mod MainPath
+pub mod Climbed
+pub mod Taken
 pub mod Cuts
 pub mod CutSends
 pub mod Depths

@@ -54,6 +54,14 @@ pub main-length : {A : Shape} → ValidShape A → length (mainPath A) ≡ suc (
 unfolding mainPath
 main-length {A} v = path-length-to (shape-ordered v) (suc (A .output)) (A .output) (omega arith) (v .output)
 
+-- the step at or above the output that stands at depth n is entry n of the main path
+pub main-at : {A : Shape} → ValidShape A → (c n : ℕ) → From (A .tree) c (A .output) → depth (A .tree) c ≡ n → c ≡ getD (mainPath A) n 0
+unfolding mainPath
+main-at {A} v c n w e =
+    let o = shape-ordered v in
+    let r = path-at-to o (suc (A .output)) (A .output) (omega arith) (v .output) n (omega (arith, depth-le o c (A .output) w)) in
+    depth-unique o c (getD (mainPath A) n 0) (A .output) w (r .0) (e ∙ sym (r .1))
+
 -- where the query's main path is long enough, the cut step is on it, as deep as the view's output
 pub cut-on-path : {Q U : Shape} → ValidShape Q → ValidShape U → length (mainPath U) ≤ length (mainPath Q)
     → From (Q .tree) (cutStep Q U) (Q .output) × (depth (Q .tree) (cutStep Q U) ≡ depth (U .tree) (U .output))

@@ -1,4 +1,10 @@
 // Rewriting a query by a view (docs/RULES.md, "Rewriting").
+ghost use Prim.Native.Nat.{ℕ, _+_, _-_, _<_};
+ghost use mathlib.Core.Path.{_≡_};
+ghost use lib.ListN.{length, getD};
+ghost use Rattle.tables.specs.Tree.{From};
+ghost use Rattle.tables.specs.Pattern.{shapeOf, ValidPattern};
+ghost use Rattle.rewriting.specs.Candidate.{mainPath};
 use tables::Pattern;
 use tables::Refusal;
 
@@ -13,4 +19,50 @@ pub enum Rewriting {
 pub struct RewritingAnswer {
     pub answer: Rewriting,
     pub pattern: Pattern,
+}
+
+// How many steps the main path has.
+fn main_length(p: Pattern) -> usize
+    requires { ⌜ ValidPattern p ⌝ }
+    ensures { λ r. ⌜ r ≡ length (mainPath (shapeOf p)) ⌝ }
+{
+    let mut s = p.output.0 as usize;
+    let mut k = 0;
+    while 0 < s {
+        s = p.parent[s] as usize;
+        k += 1;
+    }
+    k + 1
+}
+
+// The step of the main path that is `up` steps above its end.
+fn main_step(p: Pattern, up: usize) -> usize
+    requires { ⌜ ValidPattern p ⌝ }
+    requires { ⌜ up < length (mainPath (shapeOf p)) ⌝ }
+    ensures { λ r. ⌜ r ≡ getD (mainPath (shapeOf p)) (length (mainPath (shapeOf p)) - 1 - up) 0 ⌝ }
+{
+    let mut s = p.output.0 as usize;
+    let mut k = 0;
+    while k < up {
+        s = p.parent[s] as usize;
+        k += 1;
+    }
+    s
+}
+
+// How many steps are step c or below it: they stand in one run, which ends before the first later step that hangs before c.
+fn cut_size(p: Pattern, c: usize) -> usize
+    requires { ⌜ ValidPattern p ⌝ }
+    requires { ⌜ c < p .count ⌝ }
+    ensures { λ r. ⌜ ((u : ℕ) → From (shapeOf p .tree) c u → u < c + r) × ((t : ℕ) → t < r → From (shapeOf p .tree) c (c + t)) ⌝ }
+{
+    let n = p.count;
+    let mut u = c + 1;
+    while u < n {
+        if (p.parent[u] as usize) < c {
+            return u - c;
+        }
+        u += 1;
+    }
+    u - c
 }

@@ -7,6 +7,7 @@ pub mod Climbing
 pub mod Depth
 pub mod Columns
 pub mod Rules
+pub mod Filling
 pub mod Refusals
 pub mod Agreement
 pub mod Outcomes
