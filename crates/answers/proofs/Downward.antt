@@ -1,20 +1,19 @@
 -- The second pass, node by node: where a step stands in a whole placement, and what its child steps may then take. Assumes nothing.
-use Prim.Native.Nat.{ℕ, zero, suc, _+_, _*_, _≤_, _<_}
-use mathlib.Core.Path.{_≡_, refl, sym, ap, _∙_, subst}
+use Prim.Native.Nat.{ℕ, zero, suc, _+_, _*_, _<_}
+use mathlib.Core.Path.{_≡_, refl, sym, _∙_, subst}
 use mathlib.Core.Logic.{_⊎_, inl, inr, ⊎-elim}
 use mathlib.Core.List.{List}
 use native.Mathlib.Omega.{arith}
 use native.Mathlib.Nat.{eq-zero-or-pos}
-use native.Mathlib.Decide.{ℕ-discrete}
 use lib.ListN.{length, getD}
-use Rattle.tables.specs.Bits.{bit, Marks}
-use Rattle.tables.specs.Tree.{Child, Below, child, From}
+use Rattle.tables.specs.Bits.{Marks}
+use Rattle.tables.specs.Tree.{Child, child, From}
 use Rattle.tables.specs.Document.{Document, nodeCount, nodesOf, ValidDocument}
 use Rattle.tables.specs.Pattern.{Shape, ValidShape}
 use Rattle.tables.proofs.Choice.{below-or-at}
 use Rattle.tables.proofs.Marks.{marks-to}
 use Rattle.tables.proofs.Rules.{document-ordered, shape-ordered}
-use Rattle.tables.proofs.Trees.{below-lt, below-parent, from-child, from-le, parent-lt}
+use Rattle.tables.proofs.Trees.{below-lt, below-parent, from-child, from-le}
 use Rattle.placing.specs.Placement.{Goes}
 use Rattle.placing.proofs.Fit.{Whole, whole-able, whole-root, whole-up, whole-down}
 use Rattle.placing.proofs.Sending.{task, reaches-whole}

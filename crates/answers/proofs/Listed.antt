@@ -1,11 +1,11 @@
 -- The answer list of the second pass, node by node, and what the start marks stand for. Assumes nothing.
-use Prim.Native.Nat.{ℕ, zero, suc, _+_, _*_, _≤_, _<_}
+use Prim.Native.Nat.{ℕ, suc, _+_, _*_, _≤_, _<_}
 use mathlib.Core.Path.{_≡_, refl, sym, ap, _∙_, subst}
 use mathlib.Core.Logic.{_⊎_, inl, inr, ⊎-elim, _↔_}
 use mathlib.Core.List.{List, [], _∷_, _++_}
 use native.Mathlib.Omega.{arith}
 use native.Mathlib.Numerals.{add-one}
-use lib.ListN.{length, getD, drop, set, length-append, length-set}
+use lib.ListN.{length, getD, set, length-append, length-set}
 use Rattle.tables.specs.Bits.{bit, Marks}
 use Rattle.tables.specs.Document.{Document, nodeCount, nodesOf}
 use Rattle.tables.specs.Pattern.{Shape, ValidShape}
@@ -13,9 +13,9 @@ use Rattle.tables.proofs.Choice.{below-or-at}
 use Rattle.tables.proofs.Columns.{put-next}
 use Rattle.tables.proofs.Marks.{bit-cases, marks-one, marks-none, marks-to}
 use Rattle.placing.specs.Placement.{Reaches}
-use Rattle.placing.specs.Answer.{Started, Lists}
+use Rattle.placing.specs.Answer.{Started}
 use Rattle.placing.proofs.Listing.{lists-none, lists-more, lists-iff}
-use Rattle.answers.specs.Working.{PlacedAt, Working}
+use Rattle.answers.specs.Working.{PlacedAt}
 use Rattle.answers.specs.Answers.{Found}
 use Rattle.answers.specs.Passes.{Marked, Ready, Downward, Listed, Noted}
 

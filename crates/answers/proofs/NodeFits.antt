@@ -1,7 +1,7 @@
 -- Which steps fit at a node, from those that fit at its children and below: one turn of the recursion that decides placements. Assumes nothing.
-use Prim.Native.Nat.{ℕ, zero, suc, _+_, _≤_, _<_}
+use Prim.Native.Nat.{ℕ, zero, suc, _<_}
 use mathlib.Core.Path.{_≡_, refl, sym, _∙_, subst}
-use mathlib.Core.Logic.{_⊎_, inl, inr, ⊎-elim, _↔_}
+use mathlib.Core.Logic.{_⊎_, inl, inr, ⊎-elim}
 use native.Mathlib.Omega.{arith}
 use lib.ListN.{getD}
 use Rattle.tables.specs.Bits.{bit, Marks}
@@ -10,7 +10,7 @@ use Rattle.tables.specs.Document.{Document, nodeCount, nodesOf}
 use Rattle.tables.specs.Pattern.{Shape, ValidShape}
 use Rattle.tables.proofs.Marks.{marks-to}
 use Rattle.tables.proofs.Rules.{shape-ordered}
-use Rattle.placing.specs.Placement.{Takes, Goes, ReachesFrom}
+use Rattle.placing.specs.Placement.{Goes}
 use Rattle.placing.proofs.Fit.{Able, able, able-ok, able-next}
 use Rattle.placing.proofs.Sending.{task, reaches-able}
 use Rattle.answers.specs.Working.{FitsAt}

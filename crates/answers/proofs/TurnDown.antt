@@ -1,6 +1,6 @@
 -- One node's turn in the second pass, from the numbers that the code computes. Assumes nothing.
-use Prim.Native.Nat.{ℕ, zero, suc, _+_, _*_, _^_, _≤_, _<_}
-use mathlib.Core.Path.{_≡_, refl, sym, ap, _∙_, subst}
+use Prim.Native.Nat.{ℕ, zero, suc, _+_, _*_, _<_}
+use mathlib.Core.Path.{_≡_, refl, sym, ap, subst}
 use mathlib.Core.Logic.{_⊎_, inl, inr, ⊎-elim}
 use mathlib.Core.List.{List}
 use native.Mathlib.Omega.{arith}
@@ -12,7 +12,7 @@ use lib.Seq.{getD-set-same, getD-set-other}
 use Rattle.tables.specs.Bits.{bit, Marks}
 use Rattle.tables.specs.Tree.{Child}
 use Rattle.tables.specs.Document.{Document, nodeCount, nodesOf, ValidDocument}
-use Rattle.tables.specs.Pattern.{Shape, ValidShape}
+use Rattle.tables.specs.Pattern.{Shape}
 use Rattle.tables.proofs.Bits.{bit-zero}
 use Rattle.tables.proofs.Marks.{marks-to, marks-or, marks-and, marks-none, bits-lt}
 use Rattle.answers.specs.Working.{FitsAt, PlacedAt}

@@ -10,7 +10,7 @@ use Prim.Native.Nat.{ℕ, _*_, _≤_}
 use mathlib.Core.Path.{_≡_}
 use mathlib.Core.List.{List, [], _∷_, _++_}
 use lib.ListN.{length, drop}
-use Rattle.tables.specs.Document.{Document, nodeCount, nodesOf, ValidDocument}
+use Rattle.tables.specs.Document.{Document, nodeCount, ValidDocument}
 use Rattle.tables.specs.Pattern.{Shape, shapeOf, ValidPattern}
 use Rattle.tables.specs.Refusal.{Check, CountedBy}
 use Rattle.tables.specs.declared.Pattern.{Pattern}

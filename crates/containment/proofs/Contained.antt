@@ -1,8 +1,8 @@
 -- Contained exactly where a mapping exists; where none does, A's witness is a document that obeys the rules, on which A answers the answer node and B does
 -- not. Assumes nothing.
-use Prim.Native.Nat.{ℕ, zero, suc, _+_, _≤_, _<_}
-use mathlib.Core.Path.{_≡_, sym, ap, _∙_, subst}
-use mathlib.Core.Logic.{_⊎_, _↔_, _≢_}
+use Prim.Native.Nat.{ℕ, zero, suc, _≤_, _<_}
+use mathlib.Core.Path.{sym, ap, _∙_, subst}
+use mathlib.Core.Logic.{_↔_}
 use native.Mathlib.Omega.{arith}
 use lib.ListN.{getD}
 use Rattle.tables.specs.Tree.{IsLabel}
@@ -11,8 +11,8 @@ use Rattle.tables.specs.Pattern.{Shape, ValidShape}
 use Rattle.tables.proofs.Rules.{shape-ordered}
 use Rattle.placing.specs.Answer.{Answer}
 use Rattle.containment.specs.Mapping.{Maps, Contained}
-use Rattle.containment.specs.Witness.{Stands, Fresh, ownNode, witnessSize, witnessOf, answerNode}
-use Rattle.containment.proofs.Nodes.{Axes, Witness, For, own, new, Kind, kind-to, descendants-le}
+use Rattle.containment.specs.Witness.{Fresh, witnessSize, witnessOf, answerNode}
+use Rattle.containment.proofs.Nodes.{Axes, Witness, For, own, new, kind-to, descendants-le}
 use Rattle.containment.proofs.Written.{witness-is, witness-equal, witness-root}
 use Rattle.containment.proofs.Shows.{witness-ordered, witness-answer}
 use Rattle.containment.proofs.Complete.{Unused, shown, complete}

@@ -1,10 +1,10 @@
 -- A has its answer node for an answer in its own witness, and the witness obeys the rules for documents. Assumes nothing.
 use Prim.Native.Nat.{ℕ, zero, suc, _+_, _≤_, _<_}
-use mathlib.Core.Path.{_≡_, refl, sym, ap, _∙_, subst, subst₂}
+use mathlib.Core.Path.{_≡_, refl, sym, ap, _∙_, subst₂}
 use mathlib.Core.Logic.{_⊎_, inl, inr, ⊎-elim}
 use native.Mathlib.Omega.{arith}
 use native.Mathlib.Decide.{ℕ-discrete}
-use Rattle.tables.specs.Tree.{Child, Below, child, under, From, Rows}
+use Rattle.tables.specs.Tree.{Child, Below, child, under, Rows}
 use Rattle.tables.specs.Pattern.{Shape}
 use Rattle.tables.proofs.Trees.{Ordered}
 use Rattle.placing.specs.Placement.{Goes, Sends, Reaches}

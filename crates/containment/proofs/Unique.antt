@@ -1,5 +1,5 @@
 -- No second answer fits the containment call. Assumes nothing.
-use Prim.Native.Nat.{ℕ, _<_}
+use Prim.Native.Nat.{ℕ}
 use mathlib.Core.Path.{_≡_, refl, sym, ap, ap₂, _∙_}
 use mathlib.Core.List.{List, _++_, map}
 use lib.ListN.{length, drop}

@@ -10,7 +10,7 @@ use Rattle.tables.specs.Column.{blocks}
 use Rattle.tables.specs.Document.{nodesOf}
 use Rattle.tables.specs.Pattern.{Shape}
 use Rattle.tables.proofs.Columns.{blocks-at}
-use Rattle.containment.specs.Witness.{descendants, ownNode, witnessSize, hook, byAxis, parentsFor, labelsFor, witnessOf}
+use Rattle.containment.specs.Witness.{descendants, ownNode, hook, byAxis, parentsFor, labelsFor, witnessOf}
 use Rattle.containment.proofs.Nodes.{Axes, Witness}
 
 -- blocks of 1 + axis entries

@@ -1,5 +1,5 @@
 -- Mappings of one pattern into another, and containment on every document (docs/RULES.md, "Mappings" and "Containment"). Assumes nothing.
-use Prim.Native.Nat.{ℕ, _≤_}
+use Prim.Native.Nat.{ℕ}
 use mathlib.Core.Path.{_≡_}
 use Rattle.tables.specs.Document.{Document, ValidDocument}
 use Rattle.tables.specs.Pattern.{Shape, rowsOf}

@@ -1,11 +1,11 @@
 -- A test for each kind of fact, and that what passes holds. Assumes nothing.
 use Prim.Native.Nat.{ℕ, _*_, _≤_}
-use mathlib.Core.Path.{_≡_, refl, sym, ap, _∙_, subst, subst₂}
+use mathlib.Core.Path.{_≡_, refl, sym, subst, subst₂}
 use mathlib.Core.Bool.{Bool, true, _&&_, not}
 use mathlib.Core.List.{List, [], _∷_}
 use native.Mathlib.Omega.{arith}
 use lib.Dec.{T, ltb, eqb, eqb→eq, ltb→lt}
-use lib.ListN.{length, getD}
+use lib.ListN.{length}
 use Rattle.tables.specs.Column.{column}
 use Rattle.tables.specs.Document.{Document, nodeCount, ValidDocument}
 use Rattle.tables.specs.Pattern.{shapeOf, patternOf, ValidPattern}
@@ -18,7 +18,7 @@ use Rattle.packets.proofs.PatternTrip.{pattern-packet-passes}
 use Rattle.placing.specs.Answer.{Begins, Answer, Started, In, Lists}
 use Rattle.answers.specs.Working.{Working}
 use Rattle.answers.proofs.Tested.{begins, tells-begins, isIn, tells-in, isStartList, tells-start-list, answersOf, answers-of, workingOf, working-of}
-use Rattle.containment.specs.Mapping.{Maps, Contained}
+use Rattle.containment.specs.Mapping.{Contained}
 use Rattle.containment.specs.Witness.{Fresh, witnessOf, answerNode}
 use Rattle.containment.proofs.Contained.{witness-valid, witness-answers, witness-apart}
 use Rattle.containment.proofs.Deciding.{mapsInto, leastMapping, least-mapping, tells-maps, tells-contained}

@@ -1,5 +1,4 @@
 -- Cases 1 to 11 of flight line seven hold, in the terms of the definitions: the whole table is proved by one computation. Assumes nothing.
-use Prim.Native.Nat.{ℕ}
 use lib.Dec.{T}
 use Rattle.tables.specs.Column.{blocks}
 use Rattle.tables.specs.Document.{ValidDocument}

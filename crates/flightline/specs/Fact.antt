@@ -5,7 +5,7 @@ use mathlib.Core.List.{List, [], _∷_}
 use lib.ListN.{length, getD}
 use Rattle.tables.specs.Column.{column}
 use Rattle.tables.specs.Document.{Document, nodeCount, ValidDocument}
-use Rattle.tables.specs.Pattern.{Shape, shapeOf, patternOf, zeroPattern, ValidPattern}
+use Rattle.tables.specs.Pattern.{shapeOf, patternOf, zeroPattern, ValidPattern}
 use Rattle.tables.specs.declared.Pattern.{Pattern}
 use Rattle.tables.specs.declared.Checked.the-variants as checked
 use Rattle.packets.specs.PatternPacket.{patternPacket, ReadsPattern}

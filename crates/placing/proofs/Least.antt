@@ -7,7 +7,7 @@ use mathlib.Core.Bool.{Bool, true, false, _&&_, cond}
 use mathlib.Core.List.{List, [], _∷_, _++_}
 use native.Mathlib.Omega.{arith}
 use native.Mathlib.Nat.{eq-or-lt-of-le, eq-zero-or-pos}
-use native.Mathlib.Decide.{decLt, ℕ-discrete}
+use native.Mathlib.Decide.{decLt}
 use lib.Dec.{T}
 use lib.ListN.{length, getD, length-append, List·getD-append}
 use lib.Seq.{getD-append-add}
@@ -16,7 +16,7 @@ use Rattle.tables.proofs.Choice.{below-or-at}
 use Rattle.tables.proofs.Trees.{Ordered, below-lt}
 use Rattle.tables.proofs.Tests.{Tells, tells-and}
 use Rattle.placing.specs.Smallest.{NoLater, same, less}
-use Rattle.placing.proofs.Fit.{Task, Fit, Able, able-ok, able-next, Whole, whole-able}
+use Rattle.placing.proofs.Fit.{Task, Fit, Able, able-ok, able-next, whole-able}
 use Rattle.placing.proofs.Probe.{Probe, Probes, canSend, tells-can}
 
 -- two lists each no later than the other are one

@@ -10,7 +10,7 @@
 -- Assumes nothing.
 use Prim.Native.Nat.{ℕ, zero, suc, _<_}
 use mathlib.Core.Path.{_≡_}
-use Rattle.tables.specs.Tree.{Tree, Child, Below, From, Rows}
+use Rattle.tables.specs.Tree.{Child, Below, From, Rows}
 use Rattle.tables.specs.Pattern.{Shape}
 
 -- a step's label fits a row's where the two are equal

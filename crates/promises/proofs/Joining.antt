@@ -1,10 +1,10 @@
 -- The join call, the Answers call and its started form agree: the joined pattern has, list for list, the answers found by starting the compensation at the view's
 -- answers. Assumes nothing.
 use Prim.Native.Nat.{ℕ}
-use mathlib.Core.Path.{_≡_, refl, sym, ap, ap₂, _∙_, subst}
+use mathlib.Core.Path.{_≡_, sym, ap, _∙_, subst}
 use mathlib.Core.Logic.{_↔_}
-use mathlib.Core.List.{List, _++_}
-use lib.ListN.{length, take, drop}
+use mathlib.Core.List.{List}
+use lib.ListN.{take, drop}
 use lib.Seq.{take-at}
 use Rattle.tables.specs.Document.{Document}
 use Rattle.tables.specs.Pattern.{Shape, shapeOf}

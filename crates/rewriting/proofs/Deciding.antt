@@ -1,7 +1,6 @@
 -- A test that runs tells whether the candidate serves, and so whether anything does. Assumes nothing.
-use Prim.Native.Nat.{ℕ, suc, _≤_}
-use mathlib.Core.Path.{_≡_, sym, subst}
-use mathlib.Core.Logic.{_↔_}
+use Prim.Native.Nat.{suc, _≤_}
+use mathlib.Core.Path.{subst}
 use mathlib.Core.Bool.{Bool, _&&_}
 use native.Mathlib.Omega.{arith}
 use lib.Dec.{T, ltb, eqb}

@@ -2,17 +2,16 @@
 -- compensation that serves. There is one candidate. Assumes nothing.
 use Prim.Native.Nat.{ℕ, _+_, _-_, _≤_, _<_}
 use mathlib.Core.Path.{_≡_, refl, sym, ap, _∙_, subst}
-use mathlib.Core.Logic.{_↔_, inl}
+use mathlib.Core.Logic.{_↔_}
 use native.Mathlib.Omega.{arith}
 use lib.ListN.{length}
 use Rattle.tables.specs.Tree.{From}
 use Rattle.tables.specs.Pattern.{Shape, shapeOf, patternOf, ValidPattern, ValidShape, Clean}
 use Rattle.tables.specs.declared.Pattern.{Pattern}
-use Rattle.tables.proofs.Agreement.{valid-agree}
 use Rattle.tables.proofs.Depth.{depth}
-use Rattle.tables.proofs.Rules.{Agree, pattern-of-shape, pattern-of-agree, pattern-of-clean, agree-sym, shape-ordered}
+use Rattle.tables.proofs.Rules.{pattern-of-shape, pattern-of-agree, pattern-of-clean, agree-sym, shape-ordered}
 use Rattle.tables.proofs.Trees.{from-le}
-use Rattle.containment.specs.Mapping.{Maps, Contained, Equal}
+use Rattle.containment.specs.Mapping.{Maps, Contained}
 use Rattle.containment.proofs.Contained.{contained-iff}
 use Rattle.containment.proofs.Maps.{maps-sound}
 use Rattle.joining.specs.Join.{added, joinOf, Joinable}

@@ -1,12 +1,12 @@
 -- How deep a row stands, that the rows above one row are told apart by their depth, and that what lies below a row stands in one run after it.
 -- Assumes nothing.
-use Prim.Native.Nat.{ℕ, zero, suc, _+_, _-_, _≤_, _<_}
-use mathlib.Core.Path.{_≡_, refl, sym, ap, _∙_, subst, subst₂}
+use Prim.Native.Nat.{ℕ, zero, suc, _≤_, _<_}
+use mathlib.Core.Path.{_≡_, refl, sym, ap, _∙_, subst}
 use mathlib.Core.Logic.{_⊎_, inl, inr, ⊎-elim}
 use native.Mathlib.Omega.{arith}
 use native.Mathlib.Nat.{eq-or-lt-of-le}
 use Rattle.tables.specs.Tree.{Tree, Child, Below, child, under, From}
-use Rattle.tables.proofs.Trees.{Ordered, parent-lt, below-lt, from-child, below-up, below-parent, below-trans}
+use Rattle.tables.proofs.Trees.{Ordered, parent-lt, below-up, below-parent, below-trans}
 
 -- how many parents lie above i, k at most
 unfoldable pub depthTo : Tree → ℕ → ℕ → ℕ

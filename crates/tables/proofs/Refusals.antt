@@ -1,7 +1,7 @@
 -- A call answers or refuses, never both, and refuses by one number. Assumes nothing.
 use Prim.Native.Nat.{ℕ}
 use mathlib.Core.Path.{_≡_, refl, sym, ap, _∙_}
-use mathlib.Core.Logic.{_⊎_, inl, inr, ⊎-elim}
+use mathlib.Core.Logic.{_⊎_, inl, ⊎-elim}
 use mathlib.Core.List.{List, [], _∷_}
 use Rattle.tables.specs.Refusal.{number, Check, Passes, Refuses, Decided, CountedBy}
 use Rattle.tables.specs.declared.Refusal.{Refusal}

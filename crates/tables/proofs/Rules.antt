@@ -1,13 +1,12 @@
 -- What the rules give: order in a valid table, a pattern's table and its shape say the same, and tests for the rules. Assumes nothing.
-use Prim.Native.Nat.{ℕ, zero, suc, _+_, _≤_, _<_}
-use mathlib.Core.Path.{_≡_, refl, sym, ap, _∙_}
-use mathlib.Core.Logic.{_⊎_, inl, inr}
+use Prim.Native.Nat.{ℕ, suc, _<_}
+use mathlib.Core.Path.{_≡_, refl, sym, _∙_}
 use mathlib.Core.Bool.{Bool, _&&_, _||_}
 use native.Mathlib.Omega.{arith}
 use lib.Dec.{T, ltb, eqb, eqb→eq}
 use lib.ListN.{length, getD}
-use Rattle.tables.specs.Tree.{Tree, Child, IsLabel, Hangs}
-use Rattle.tables.specs.Column.{column, padded}
+use Rattle.tables.specs.Tree.{IsLabel}
+use Rattle.tables.specs.Column.{padded}
 use Rattle.tables.specs.Document.{Document, nodeCount, nodesOf, NodeRule, ValidDocument}
 use Rattle.tables.specs.Pattern.{Shape, shapeOf, tableOf, patternOf, StepRule, ValidShape, Clean}
 use Rattle.tables.specs.declared.Pattern.{Pattern}

@@ -1,8 +1,8 @@
 -- What the two checks of tables answer (docs/RULES.md, "Documents" and "Patterns"). Assumes nothing.
-use mathlib.Core.List.{List, [], _∷_}
+use mathlib.Core.List.{[], _∷_}
 use Rattle.tables.specs.Document.{Document, ValidDocument}
 use Rattle.tables.specs.Pattern.{ValidPattern}
-use Rattle.tables.specs.Refusal.{Check, Decided}
+use Rattle.tables.specs.Refusal.{Decided}
 use Rattle.tables.specs.declared.Checked.{Checked}
 use Rattle.tables.specs.declared.Pattern.{Pattern}
 

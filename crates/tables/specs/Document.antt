@@ -3,7 +3,7 @@ use Prim.Native.Nat.{ℕ, _<_, _≤_}
 use mathlib.Core.Path.{_≡_}
 use mathlib.Core.List.{List}
 use lib.ListN.{length, getD}
-use Rattle.tables.specs.Tree.{Tree, Hangs, IsLabel, Rows}
+use Rattle.tables.specs.Tree.{Hangs, IsLabel, Rows}
 
 -- a document is two lists, with an entry of each for every node
 pub record Document : Type 0 where

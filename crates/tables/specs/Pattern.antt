@@ -16,7 +16,7 @@ use mathlib.Core.Logic.{_⊎_}
 use mathlib.Core.List.{List}
 use lib.ListN.{getD, replicate}
 use Rattle.tables.specs.Tree.{Tree, Hangs, IsLabel, Rows}
-use Rattle.tables.specs.Column.{column, padded}
+use Rattle.tables.specs.Column.{padded}
 use Rattle.tables.specs.declared.Pattern.{Pattern}
 
 -- a pattern's steps: a tree, the label and the axis of each (0 child, 1 descendant), and the output step

@@ -1,9 +1,7 @@
 -- The checks in their order, then both passes. Assumes nothing.
-use Prim.Native.Nat.{ℕ, _*_, _≤_, _<_}
-use mathlib.Core.Path.{_≡_, refl, subst}
+use mathlib.Core.Path.{refl, subst}
 use mathlib.Core.Logic.{inl, inr, ⊎-elim}
 use denote.Ref.{now}
-use lib.ListN.{length}
 use native.Mathlib.Omega.{arith}
 use Rattle.tables.specs.Document.{ValidDocument}
 use Rattle.tables.specs.Pattern.{ValidPattern}
@@ -11,11 +9,6 @@ use Rattle.tables.specs.Checks.{ChecksPattern, ChecksDocument}
 use borrow.Author.Needs.{needs}
 use Rattle.answers.proofs.answers.Statement.{statement}
 use Rattle.answers.proofs.answers.Tie as tie
-use Rattle.answers.proofs.answers.Reads as reads
-use Rattle.answers.proofs.answers.Lts as lts
-use Rattle.answers.proofs.find.Reads as find-reads
-use Rattle.tables.proofs.check_document.Reads as check-document-reads
-use Rattle.tables.proofs.check_pattern.Reads as check-pattern-reads
 
 -- the first check passed
 patterned : (x : tie.After-enum-told) → ValidPattern (x .before .before .before .before .before .before .before .args .p)
@@ -28,15 +21,12 @@ documented y =
     let s = y .before .before .before .before .before .before .before .before .before .before in
     subst (ChecksDocument (record { parents = now (s .args .parents); labels = now (s .args .labels) })) (y .enum-told2 .given .1) (y .before .before .check-document .ensures) .0 .0
 
--- src/lib.rt:48:34
 check-pattern-requires : tie.Need-check-pattern-requires
 check-pattern-requires c κs = search needs
 
--- src/lib.rt:48:29
 enum-known-r : tie.Need-enum-known-r
 enum-known-r c = search needs
 
--- src/lib.rt:49:9
 returns : tie.Need-returns
 returns c =
     let s = c .before .before .before .before .before .before .before .before in
@@ -46,15 +36,12 @@ returns c =
 enum-told : tie.Need-enum-told
 enum-told c = search needs
 
--- src/lib.rt:51:34
 check-document-requires : tie.Need-check-document-requires
 check-document-requires c κs = search needs
 
--- src/lib.rt:51:29
 enum-known-r-2 : tie.Need-enum-known-r-2
 enum-known-r-2 c = search needs
 
--- src/lib.rt:52:9
 returns-2 : tie.Need-returns-2
 returns-2 c =
     let x = c .before .before .before .before in
@@ -65,33 +52,27 @@ returns-2 c =
 enum-told-2 : tie.Need-enum-told-2
 enum-told-2 c = search needs
 
--- src/lib.rt:56:9
 returns-3 : tie.Need-returns-3
 returns-3 c =
     let y = c .before in
     (inr (patterned (y .before .before .before), inr (documented y, inl (λ w. omega (arith, w .0), refl))), (refl, refl))
 
--- src/lib.rt:59:9
 returns-4 : tie.Need-returns-4
 returns-4 c =
     let y = c .before .before in
     (inr (patterned (y .before .before .before), inr (documented y, inl (λ w. omega (arith, w .1), refl))), (refl, refl))
 
--- src/lib.rt:61:20
 find-requires : tie.Need-find-requires
 find-requires c κs =
     let y = c .before .before .before .before in
     (patterned (y .before .before .before), (documented y, (omega arith, omega arith)))
 
--- src/lib.rt:45:1
 same-length : tie.Need-same-length
 same-length c = search needs
 
--- src/lib.rt:45:1
 same-length-2 : tie.Need-same-length-2
 same-length-2 c = search needs
 
--- src/lib.rt:45:1
 returns-5 : tie.Need-returns-5
 returns-5 c =
     let y = c .before .before .before .before .before .before .before .before .before in

@@ -8,21 +8,13 @@ use Rattle.answers.proofs.Finding.{found-before, started-ready, started
 use borrow.Author.Needs.{needs}
 use Rattle.answers.proofs.find_started.Statement.{statement}
 use Rattle.answers.proofs.find_started.Tie as tie
-use Rattle.answers.proofs.find_started.Reads as reads
-use Rattle.answers.proofs.find_started.Lts as lts
-use Rattle.answers.proofs.passes.descend.Reads as descend-reads
-use Rattle.answers.proofs.passes.mark_starts.Reads as mark-starts-reads
-use Rattle.answers.proofs.passes.rise.Reads as rise-reads
 
--- src/lib.rt:37:5
 rise-requires : tie.Need-rise-requires
 rise-requires c κs = search needs
 
--- src/lib.rt:38:5
 mark-starts-requires : tie.Need-mark-starts-requires
 mark-starts-requires c κs = search needs
 
--- src/lib.rt:39:5
 descend-requires : tie.Need-descend-requires
 descend-requires c κs =
     let s = c .before .before .before .before .before .before .before .before .before .before .before .before .before .before .before in
@@ -30,15 +22,12 @@ descend-requires c κs =
     let m = c .before .before .before .before .mark-starts in
     (s .pre .0, (v, (s .pre .1 .1 .1 .0, started-ready (shapeOf (s .args .p)) _ (s .pre .0) v _ _ (s .pre .1 .1 .1 .1) (c .before .before .before .before .before .before .before .before .rise .ensures) (now (s .args .starts)) (m .last .1 .1 .0) (s .pre .1 .1 .0) (m .kept .1 .1 .0) (m .ensures .0) (m .ensures .1))))
 
--- src/lib.rt:30:1
 same-length : tie.Need-same-length
 same-length c = search needs
 
--- src/lib.rt:30:1
 same-length-2 : tie.Need-same-length-2
 same-length-2 c = search needs
 
--- src/lib.rt:30:1
 returns : tie.Need-returns
 returns c =
     let s = c .before .before .before .before .before .before .before .before .before .before .before .before .before .before .before .before .before .before .before .before in

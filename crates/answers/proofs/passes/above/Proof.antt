@@ -4,38 +4,29 @@ use native.Mathlib.Omega.{arith}
 use borrow.Author.Needs.{needs}
 use Rattle.answers.proofs.passes.above.Statement.{statement}
 use Rattle.answers.proofs.passes.above.Tie as tie
-use Rattle.answers.proofs.passes.above.Reads as reads
-use Rattle.answers.proofs.passes.above.Lts as lts
 
--- src/passes.rt:43:9
 returns : tie.Need-returns
 returns c = search needs
 
--- src/passes.rt:45:13
 mul-result : tie.Need-mul-result
 mul-result c = search needs
 
--- src/passes.rt:45:13
 shared-slice-read-result : tie.Need-shared-slice-read-result
 shared-slice-read-result c = search needs
 
--- src/passes.rt:45:13
 cast-result : tie.Need-cast-result
 cast-result c = omega (arith, c .shared-slice-known .given (c .before .before .args .i))
 
--- src/passes.rt:45:5
 mul-result-2 : tie.Need-mul-result-2
 mul-result-2 c =
     let l : 0 < c .before .before .args .i = omega arith in
     omega (arith, c .before .before .pre .1 l)
 
--- src/passes.rt:45:5
 element-copy-out-result : tie.Need-element-copy-out-result
 element-copy-out-result c =
     let l : 0 < c .before .before .args .i = omega arith in
     omega (arith, c .before .before .pre .1 l)
 
--- src/passes.rt:36:1
 returns-2 : tie.Need-returns-2
 returns-2 c = search needs
 

@@ -1,4 +1,5 @@
-use Prim.Native.Nat.{ℕ, _+_, _-_, _<_, _≤_}
+-- Zeros are written from the front. Assumes nothing.
+use Prim.Native.Nat.{_+_, _-_, _≤_}
 use mathlib.Core.Path.{_≡_}
 use mathlib.Core.List.{_++_}
 use denote.Ref.{now}
@@ -8,8 +9,6 @@ use borrow.Author.Fill.{fill-none, fill-more}
 use native.Mathlib.Omega.{arith}
 use Rattle.answers.proofs.passes.clear.Statement.{statement}
 use Rattle.answers.proofs.passes.clear.Tie as tie
-use Rattle.answers.proofs.passes.clear.Reads as reads
-use Rattle.answers.proofs.passes.clear.Lts as lts
 
 abbrev Inv-loop : tie.InvT-loop
 Inv-loop work₀ m k₀ work k = (k ≤ m) × (length work ≡ length work₀) × (work ≡ replicate k 0 ++ drop k work₀)
@@ -17,35 +16,27 @@ Inv-loop work₀ m k₀ work k = (k ≤ m) × (length work ≡ length work₀) �
 abbrev μ-loop : tie.MeasureT-loop
 μ-loop work₀ m k₀ work k = m - k
 
--- src/passes.rt:18:5
 loop-holds : tie.Need-loop-holds Inv-loop μ-loop
 loop-holds c = (search needs, search needs, fill-none _ 0)
 
--- src/passes.rt:19:9
 mul-work : tie.Need-mul-work Inv-loop μ-loop
 mul-work c = omega arith
 
--- src/passes.rt:19:9
 slice-write-work : tie.Need-slice-write-work Inv-loop μ-loop
 slice-write-work c = omega arith
 
--- src/passes.rt:20:9
 add-k : tie.Need-add-k Inv-loop μ-loop
 add-k c = omega arith
 
--- src/passes.rt:18:5
 loop-less : tie.Need-loop-less Inv-loop μ-loop
 loop-less c = omega arith
 
--- src/passes.rt:18:5
 loop-again : tie.Need-loop-again Inv-loop μ-loop
 loop-again c = let l = c .before .loop in (omega arith, simp length-set (l .inv .1), rw (l .inv .2) (fill-more (l .k) 0 (now (c .before .before .args .work)) (omega arith)))
 
--- src/passes.rt:13:1
 same-length : tie.Need-same-length Inv-loop μ-loop
 same-length c = omega arith
 
--- src/passes.rt:13:1
 returns : tie.Need-returns Inv-loop μ-loop
 returns c = let e : c .before .loop .k ≡ c .before .before .args .m = omega arith in rw e at (c .before .loop .inv .2)
 

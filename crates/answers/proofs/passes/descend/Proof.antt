@@ -8,40 +8,28 @@ use Rattle.tables.proofs.Trees.{parent-lt}
 use borrow.Author.Needs.{needs}
 use Rattle.answers.proofs.passes.descend.Statement.{statement}
 use Rattle.answers.proofs.passes.descend.Tie as tie
-use Rattle.answers.proofs.passes.descend.Reads as reads
-use Rattle.answers.proofs.passes.descend.Lts as lts
-use Rattle.answers.proofs.passes.lower.Reads as lower-reads
-use Rattle.answers.proofs.plan.axis_steps.Reads as axis-steps-reads
-use Rattle.answers.proofs.plan.child_table.Reads as child-table-reads
 
--- src/passes.rt:208:5
 child-table-requires : tie.Need-child-table-requires
 child-table-requires c κs = search needs
 
--- src/passes.rt:209:9
 axis-steps-requires : tie.Need-axis-steps-requires
 axis-steps-requires c κs = search needs
 
--- src/passes.rt:210:18
 cast-output : tie.Need-cast-output
 cast-output c = search needs
 
--- src/passes.rt:211:5
 lower-requires : tie.Need-lower-requires
 lower-requires c κs =
     let s = c .before .before .before .before .before .before .before .before .before .before .before in
     let v = s .pre .1 .0 in
     ((omega (arith, s .pre .0 .output, s .pre .0 .few), v .few, s .pre .1 .1 .1 .room, s .pre .1 .1 .0), λ i p l. parent-lt (document-ordered v) i p l)
 
--- src/passes.rt:200:1
 same-length : tie.Need-same-length
 same-length c = search needs
 
--- src/passes.rt:200:1
 same-length-2 : tie.Need-same-length-2
 same-length-2 c = search needs
 
--- src/passes.rt:200:1
 returns : tie.Need-returns
 returns c =
     let s = c .before .before .before .before .before .before .before .before .before .before .before .before .before .before .before .before in

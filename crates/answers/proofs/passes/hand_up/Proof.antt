@@ -6,98 +6,73 @@ use lib.ListN.{length-set}
 use borrow.Author.Needs.{needs}
 use Rattle.answers.proofs.passes.hand_up.Statement.{statement}
 use Rattle.answers.proofs.passes.hand_up.Tie as tie
-use Rattle.answers.proofs.passes.hand_up.Reads as reads
-use Rattle.answers.proofs.passes.hand_up.Lts as lts
 
--- src/passes.rt:29:10
 mul-work : tie.Need-mul-work
 mul-work c = search needs
 
--- src/passes.rt:29:5
 mul-work-2 : tie.Need-mul-work-2
 mul-work-2 c = search needs
 
--- src/passes.rt:29:5
 slice-write-work : tie.Need-slice-write-work
 slice-write-work c = search needs
 
--- src/passes.rt:30:10
 mul-work-3 : tie.Need-mul-work-3
 mul-work-3 c = search needs
 
--- src/passes.rt:30:10
 add-work : tie.Need-add-work
 add-work c = search needs
 
--- src/passes.rt:30:5
 mul-work-4 : tie.Need-mul-work-4
 mul-work-4 c = search needs
 
--- src/passes.rt:30:5
 slice-write-work-2 : tie.Need-slice-write-work-2
 slice-write-work-2 c = search needs
 
--- src/passes.rt:31:24
 mul-work-5 : tie.Need-mul-work-5
 mul-work-5 c = search needs
 
--- src/passes.rt:31:19
 mul-work-6 : tie.Need-mul-work-6
 mul-work-6 c = search needs
 
--- src/passes.rt:31:19
 slice-read-work : tie.Need-slice-read-work
 slice-read-work c = simp length-set (omega arith)
 
--- src/passes.rt:31:10
 mul-work-7 : tie.Need-mul-work-7
 mul-work-7 c = search needs
 
--- src/passes.rt:31:5
 mul-work-8 : tie.Need-mul-work-8
 mul-work-8 c = search needs
 
--- src/passes.rt:31:5
 slice-write-work-3 : tie.Need-slice-write-work-3
 slice-write-work-3 c = simp length-set (omega arith)
 
--- src/passes.rt:32:28
 mul-work-9 : tie.Need-mul-work-9
 mul-work-9 c = search needs
 
--- src/passes.rt:32:28
 add-work-2 : tie.Need-add-work-2
 add-work-2 c = search needs
 
--- src/passes.rt:32:23
 mul-work-10 : tie.Need-mul-work-10
 mul-work-10 c = search needs
 
--- src/passes.rt:32:23
 slice-read-work-2 : tie.Need-slice-read-work-2
 slice-read-work-2 c = simp length-set (omega arith)
 
--- src/passes.rt:32:10
 mul-work-11 : tie.Need-mul-work-11
 mul-work-11 c = search needs
 
--- src/passes.rt:32:10
 add-work-3 : tie.Need-add-work-3
 add-work-3 c = search needs
 
--- src/passes.rt:32:5
 mul-work-12 : tie.Need-mul-work-12
 mul-work-12 c = search needs
 
--- src/passes.rt:32:5
 slice-write-work-4 : tie.Need-slice-write-work-4
 slice-write-work-4 c = simp length-set (omega arith)
 
--- src/passes.rt:25:1
 same-length : tie.Need-same-length
 same-length c = search needs
 
--- src/passes.rt:25:1
 returns : tie.Need-returns
 returns c =
     let a = c .before .before .args in

@@ -1,9 +1,8 @@
 -- The invariant is the state of the first pass, for every pattern whose plan the tables are. Assumes nothing.
-use Prim.Native.Nat.{ℕ, suc, _+_, _*_, _-_, _<_, _≤_}
-use mathlib.Core.Path.{_≡_, refl, sym, ap, _∙_, subst}
+use Prim.Native.Nat.{ℕ, suc, _-_, _<_, _≤_}
+use mathlib.Core.Path.{_≡_, refl, ap, _∙_}
 use denote.Ref.{now}
-use lib.ListN.{length, getD, set, length-set}
-use borrow.Author.Needs.{needs}
+use lib.ListN.{length, length-set}
 use native.Mathlib.Omega.{arith}
 use Rattle.tables.specs.Pattern.{Shape}
 use Rattle.tables.proofs.Rules.{document-ordered}
@@ -14,10 +13,6 @@ use Rattle.answers.proofs.Fitting.{fit-mask}
 use Rattle.answers.proofs.Upward.{up-start, up-fits, up-turn, up-root}
 use Rattle.answers.proofs.passes.lift.Statement.{statement}
 use Rattle.answers.proofs.passes.lift.Tie as tie
-use Rattle.answers.proofs.passes.lift.Reads as reads
-use Rattle.answers.proofs.passes.lift.Lts as lts
-use Rattle.answers.proofs.passes.turn_root.Reads as turn-root-reads
-use Rattle.answers.proofs.passes.turn_up.Reads as turn-up-reads
 
 abbrev Inv-loop : tie.InvT-loop
 Inv-loop low high lack ch de parents labels seed work₀ i₀ work i = (1 ≤ i) × (i ≤ length parents) × (length work ≡ length work₀) × ((A : Shape) → PlanOf A low high lack ch de → Upward A (record { parents = parents; labels = labels }) seed i work₀ work)
@@ -25,42 +20,34 @@ Inv-loop low high lack ch de parents labels seed work₀ i₀ work i = (1 ≤ i)
 abbrev μ-loop : tie.MeasureT-loop
 μ-loop low high lack ch de parents labels seed work₀ i₀ work i = i
 
--- src/passes.rt:119:5
 loop-holds : tie.Need-loop-holds Inv-loop μ-loop
 loop-holds c =
     let s = c .before .before .before in
     let v = s .pre .0 in
     (omega (arith, v .some), omega arith, refl, λ A p. up-start A _ (p .valid) v (s .args .seed) _ _ refl (s .pre .1 .1) (λ q l. refl))
 
--- src/passes.rt:120:9
 sub-i : tie.Need-sub-i Inv-loop μ-loop
 sub-i c = omega arith
 
--- src/passes.rt:121:42
 mul-turn-up : tie.Need-mul-turn-up Inv-loop μ-loop
 mul-turn-up c = omega arith
 
--- src/passes.rt:121:42
 shared-slice-read-turn-up : tie.Need-shared-slice-read-turn-up Inv-loop μ-loop
 shared-slice-read-turn-up c =
     let s = c .before .before .before .before .before .before in
     omega (arith, s .pre .0 .equal)
 
--- src/passes.rt:121:56
 mul-turn-up-2 : tie.Need-mul-turn-up-2 Inv-loop μ-loop
 mul-turn-up-2 c = omega arith
 
--- src/passes.rt:121:56
 shared-slice-read-turn-up-2 : tie.Need-shared-slice-read-turn-up-2 Inv-loop μ-loop
 shared-slice-read-turn-up-2 c = omega arith
 
--- src/passes.rt:121:56
 cast-turn-up : tie.Need-cast-turn-up Inv-loop μ-loop
 cast-turn-up c =
     let m = c .before .before .before in
     omega (arith, c .shared-slice-known4 .given (m .loop .i - 1))
 
--- src/passes.rt:121:9
 turn-up-requires : tie.Need-turn-up-requires Inv-loop μ-loop
 turn-up-requires c κs =
     let m = c .before .before .before .before in
@@ -69,11 +56,9 @@ turn-up-requires c κs =
     let l : i < length (now (s .args .parents)) = omega arith in
     (parent-lt (document-ordered (s .pre .0)) i (omega arith) l, omega (arith, s .pre .0 .few), omega (arith, s .pre .1, m .loop .inv .2))
 
--- src/passes.rt:119:5
 loop-less : tie.Need-loop-less Inv-loop μ-loop
 loop-less c = omega arith
 
--- src/passes.rt:119:5
 loop-again : tie.Need-loop-again Inv-loop μ-loop
 loop-again c =
     let m = c .before .before .before .before .before .before .before in
@@ -93,26 +78,22 @@ loop-again c =
           (fit-mask A (p .valid) _ _ _ _ _ _ _ _ (p .labelled) (p .lacking) (p .child-steps) (p .descendant-steps) (omega (arith, v .nodes i l .label .most)))) h,
     )
 
--- src/passes.rt:123:40
 shared-slice-read-turn-root : tie.Need-shared-slice-read-turn-root Inv-loop μ-loop
 shared-slice-read-turn-root c =
     let s = c .before .before .before .before .before .before in
     omega (arith, s .pre .0 .some, s .pre .0 .equal)
 
--- src/passes.rt:123:5
 turn-root-requires : tie.Need-turn-root-requires Inv-loop μ-loop
 turn-root-requires c κs =
     let m = c .before .before .before in
     let s = m .before .before .before .before in
     omega (arith, s .pre .0 .some, s .pre .1 .0, m .loop .inv .2)
 
--- src/passes.rt:112:1
 same-length : tie.Need-same-length Inv-loop μ-loop
 same-length c =
     let m = c .before .before .before .before .before .before in
     ap length (c .before .before .turn-root .ensures) ∙ simp length-set (m .loop .inv .2)
 
--- src/passes.rt:112:1
 returns : tie.Need-returns Inv-loop μ-loop
 returns c =
     let m = c .before .before .before .before .before .before in

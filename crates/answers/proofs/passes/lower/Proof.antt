@@ -1,5 +1,5 @@
 -- The invariant is the state of the second pass and the answers so far, for every pattern whose plan the tables are. Assumes nothing.
-use Prim.Native.Nat.{ℕ, _+_, _*_, _-_, _<_, _≤_}
+use Prim.Native.Nat.{ℕ, _-_, _<_, _≤_}
 use mathlib.Core.Path.{_≡_, refl, _∙_}
 use mathlib.Core.List.{List}
 use denote.Ref.{now}
@@ -12,10 +12,6 @@ use Rattle.answers.specs.Passes.{Marked, Ready, Downward, Listed}
 use Rattle.answers.proofs.Listed.{down-ready, listed-start, listed-noted, listed-found, noted-few}
 use Rattle.answers.proofs.passes.lower.Statement.{statement}
 use Rattle.answers.proofs.passes.lower.Tie as tie
-use Rattle.answers.proofs.passes.lower.Reads as reads
-use Rattle.answers.proofs.passes.lower.Lts as lts
-use Rattle.answers.proofs.passes.note.Reads as note-reads
-use Rattle.answers.proofs.passes.turn_down.Reads as turn-down-reads
 
 abbrev Inv-loop : tie.InvT-loop
 Inv-loop kids de output parents work₀ list₀ allowed₀ n c₀ i₀ work list allowed c i =
@@ -26,35 +22,29 @@ Inv-loop kids de output parents work₀ list₀ allowed₀ n c₀ i₀ work list
 abbrev μ-loop : tie.MeasureT-loop
 μ-loop kids de output parents work₀ list₀ allowed₀ n c₀ i₀ work list allowed c i = n - i
 
--- src/passes.rt:190:5
 loop-holds : tie.Need-loop-holds Inv-loop μ-loop
 loop-holds c =
     let s = c .before .before .before in
     (omega arith, length-replicate {A = ℕ} 2048 0, refl, refl, omega arith, λ A labels v k o r. (down-ready A _ _ _ r, listed-start A _ (Marked (now (s .args .work))) (k .valid) _))
 
--- src/passes.rt:191:13
 turn-down-requires : tie.Need-turn-down-requires Inv-loop μ-loop
 turn-down-requires c κs =
     let m = c .before .before .before in
     let s = m .before .before .before .before in
     ((omega arith, omega (arith, s .pre .0 .1), omega (arith, s .pre .0 .2, m .loop .inv .2), m .loop .inv .1), λ h. s .pre .1 (m .loop .i) h (omega arith))
 
--- src/passes.rt:192:9
 note-requires : tie.Need-note-requires Inv-loop μ-loop
 note-requires c κs =
     let m = c .before .before .before .before .before .before .before in
     let s = m .before .before .before .before in
     (omega (arith, s .pre .0 .3, m .loop .inv .3, m .loop .inv .4), omega (arith, s .pre .0 .1, m .loop .inv .4), omega (arith, s .pre .0 .1), s .pre .0 .0)
 
--- src/passes.rt:193:9
 add-i : tie.Need-add-i Inv-loop μ-loop
 add-i c = omega arith
 
--- src/passes.rt:190:5
 loop-less : tie.Need-loop-less Inv-loop μ-loop
 loop-less c = omega arith
 
--- src/passes.rt:190:5
 loop-again : tie.Need-loop-again Inv-loop μ-loop
 loop-again c =
     let m = c .before .before .before .before .before .before .before .before .before .before in
@@ -74,15 +64,12 @@ loop-again c =
           (t .0, listed-noted A _ (Marked (now (s .args .work))) (k .valid) _ _ (m .loop .i) (m .loop .c) _ _ _ _ o (t .1) n l (u .1)),
     )
 
--- src/passes.rt:181:1
 same-length : tie.Need-same-length Inv-loop μ-loop
 same-length c = c .before .loop .inv .2
 
--- src/passes.rt:181:1
 same-length-2 : tie.Need-same-length-2 Inv-loop μ-loop
 same-length-2 c = c .before .loop .inv .3
 
--- src/passes.rt:181:1
 returns : tie.Need-returns Inv-loop μ-loop
 returns c =
     let m = c .before in

@@ -1,16 +1,13 @@
 -- Each start node's second entry is set to 1, and no other entry. Assumes nothing.
-use Prim.Native.Nat.{ℕ, suc, _+_, _*_, _-_, _<_, _≤_}
+use Prim.Native.Nat.{_+_, _*_, _-_, _<_, _≤_}
 use mathlib.Core.Path.{_≡_}
 use lib.ListN.{length, getD}
 use native.Mathlib.Omega.{arith}
 use native.Mathlib.Numerals.{add-one}
-use borrow.Author.Needs.{needs}
 use denote.Ref.{now}
 use Rattle.answers.proofs.Starts.{MarkedTo, marked-start, marked-more, marked-all, marked-others}
 use Rattle.answers.proofs.passes.mark_starts.Statement.{statement}
 use Rattle.answers.proofs.passes.mark_starts.Tie as tie
-use Rattle.answers.proofs.passes.mark_starts.Reads as reads
-use Rattle.answers.proofs.passes.mark_starts.Lts as lts
 
 abbrev Inv-loop : tie.InvT-loop
 Inv-loop starts n work₀ k₀ work k = (k ≤ length starts) × MarkedTo starts work₀ k work
@@ -18,57 +15,46 @@ Inv-loop starts n work₀ k₀ work k = (k ≤ length starts) × MarkedTo starts
 abbrev μ-loop : tie.MeasureT-loop
 μ-loop starts n work₀ k₀ work k = length starts - k
 
--- src/passes.rt:76:5
 loop-holds : tie.Need-loop-holds Inv-loop μ-loop
 loop-holds c = (omega arith, marked-start _ _)
 
--- src/passes.rt:77:17
 mul-x : tie.Need-mul-x Inv-loop μ-loop
 mul-x c = omega arith
 
--- src/passes.rt:77:17
 shared-slice-read-x : tie.Need-shared-slice-read-x Inv-loop μ-loop
 shared-slice-read-x c = omega arith
 
--- src/passes.rt:77:17
 cast-x : tie.Need-cast-x Inv-loop μ-loop
 cast-x c =
     let l = c .before .before in
     omega (arith, l .before .pre .1 (l .loop .k) (omega arith))
 
--- src/passes.rt:78:14
 mul-work : tie.Need-mul-work Inv-loop μ-loop
 mul-work c =
     let l = c .before .before in
     omega (arith, l .before .pre .1 (l .loop .k) (omega arith))
 
--- src/passes.rt:78:14
 add-work : tie.Need-add-work Inv-loop μ-loop
 add-work c =
     let l = c .before .before in
     omega (arith, l .before .pre .1 (l .loop .k) (omega arith))
 
--- src/passes.rt:78:9
 mul-work-2 : tie.Need-mul-work-2 Inv-loop μ-loop
 mul-work-2 c =
     let l = c .before .before in
     omega (arith, l .before .pre .1 (l .loop .k) (omega arith))
 
--- src/passes.rt:78:9
 slice-write-work : tie.Need-slice-write-work Inv-loop μ-loop
 slice-write-work c =
     let l = c .before .before in
     omega (arith, l .before .pre .1 (l .loop .k) (omega arith), l .before .pre .0, l .loop .inv .1 .same-length)
 
--- src/passes.rt:79:9
 add-k : tie.Need-add-k Inv-loop μ-loop
 add-k c = omega arith
 
--- src/passes.rt:76:5
 loop-less : tie.Need-loop-less Inv-loop μ-loop
 loop-less c = omega arith
 
--- src/passes.rt:76:5
 loop-again : tie.Need-loop-again Inv-loop μ-loop
 loop-again c =
     let l = c .before .before in
@@ -76,11 +62,9 @@ loop-again c =
     = omega (arith, l .before .pre .1 (l .loop .k) (omega arith), l .before .pre .0, l .loop .inv .1 .same-length) in
     (omega arith, rw (add-one (l .loop .k)) (marked-more _ _ (l .loop .k) (l .loop .work) (l .loop .inv .1) r))
 
--- src/passes.rt:69:1
 same-length : tie.Need-same-length Inv-loop μ-loop
 same-length c = c .before .loop .inv .1 .same-length
 
--- src/passes.rt:69:1
 returns : tie.Need-returns Inv-loop μ-loop
 returns c =
     let l = c .before in

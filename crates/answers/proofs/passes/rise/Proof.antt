@@ -9,39 +9,25 @@ use Rattle.answers.proofs.Upward.{up-before}
 use borrow.Author.Needs.{needs}
 use Rattle.answers.proofs.passes.rise.Statement.{statement}
 use Rattle.answers.proofs.passes.rise.Tie as tie
-use Rattle.answers.proofs.passes.rise.Reads as reads
-use Rattle.answers.proofs.passes.rise.Lts as lts
-use Rattle.answers.proofs.passes.clear.Reads as clear-reads
-use Rattle.answers.proofs.passes.lift.Reads as lift-reads
-use Rattle.answers.proofs.plan.axis_steps.Reads as axis-steps-reads
-use Rattle.answers.proofs.plan.label_steps.Reads as label-steps-reads
-use Rattle.answers.proofs.plan.parent_table.Reads as parent-table-reads
 
--- src/passes.rt:136:5
 label-steps-requires : tie.Need-label-steps-requires
 label-steps-requires c κs = search needs
 
--- src/passes.rt:137:5
 parent-table-requires : tie.Need-parent-table-requires
 parent-table-requires c κs = search needs
 
--- src/passes.rt:138:9
 axis-steps-requires : tie.Need-axis-steps-requires
 axis-steps-requires c κs = search needs
 
--- src/passes.rt:139:9
 axis-steps-requires-2 : tie.Need-axis-steps-requires-2
 axis-steps-requires-2 c κs = search needs
 
--- src/passes.rt:140:17
 mul-clear : tie.Need-mul-clear
 mul-clear c = search needs
 
--- src/passes.rt:140:5
 clear-requires : tie.Need-clear-requires
 clear-requires c κs = search needs
 
--- src/passes.rt:141:5
 lift-requires : tie.Need-lift-requires
 lift-requires c κs =
     let s = c .before .before .before .before .before .before .before .before .before .before .before .before .before .before .before .before .before .before in
@@ -49,11 +35,9 @@ lift-requires c κs =
     let n : ℕ = length (now (s .args .parents)) in
     (s .pre .1 .0, (rw (e, cleared-length (2 * n) (now (s .args .work)) (s .pre .1 .1)) (s .pre .1 .1), λ q l. rw e (cleared-zero (2 * n) (now (s .args .work)) q l)))
 
--- src/passes.rt:127:1
 same-length : tie.Need-same-length
 same-length c = search needs
 
--- src/passes.rt:127:1
 returns : tie.Need-returns
 returns c =
     let s = c .before .before .before .before .before .before .before .before .before .before .before .before .before .before .before .before .before .before .before .before .before in

@@ -1,16 +1,13 @@
 -- The list is read once: each entry is at least one more than the one before it, and below n. Assumes nothing.
-use Prim.Native.Nat.{ℕ, suc, _+_, _-_, _<_, _≤_}
+use Prim.Native.Nat.{suc, _-_, _≤_}
 use mathlib.Core.Path.{_≡_}
 use lib.ListN.{length, getD}
 use native.Mathlib.Omega.{arith}
 use native.Mathlib.Numerals.{add-one}
-use borrow.Author.Needs.{needs}
 use denote.Ref.{now}
 use Rattle.answers.proofs.Starts.{Rising, rising-start, rising-more, rising-low}
 use Rattle.answers.proofs.passes.starts_right.Statement.{statement}
 use Rattle.answers.proofs.passes.starts_right.Tie as tie
-use Rattle.answers.proofs.passes.starts_right.Reads as reads
-use Rattle.answers.proofs.passes.starts_right.Lts as lts
 
 abbrev Inv-loop : tie.InvT-loop
 Inv-loop starts n k₀ least₀ k least = (k ≤ length starts) × Rising starts n k least
@@ -18,49 +15,39 @@ Inv-loop starts n k₀ least₀ k least = (k ≤ length starts) × Rising starts
 abbrev μ-loop : tie.MeasureT-loop
 μ-loop starts n k₀ least₀ k least = length starts - k
 
--- src/passes.rt:54:5
 loop-holds : tie.Need-loop-holds Inv-loop μ-loop
 loop-holds c = (omega arith, rising-start _ _)
 
--- src/passes.rt:55:17
 mul-x : tie.Need-mul-x Inv-loop μ-loop
 mul-x c = omega arith
 
--- src/passes.rt:55:17
 shared-slice-read-x : tie.Need-shared-slice-read-x Inv-loop μ-loop
 shared-slice-read-x c = omega arith
 
--- src/passes.rt:55:17
 cast-x : tie.Need-cast-x Inv-loop μ-loop
 cast-x c = omega (arith, c .shared-slice-known .given (c .before .before .loop .k))
 
--- src/passes.rt:57:13
 returns : tie.Need-returns Inv-loop μ-loop
 returns c =
     let l = c .before .before .before in
     λ w. rising-low _ _ (l .loop .k) (l .loop .least) (l .loop .inv .1) (omega arith) (omega arith) (w .0)
 
--- src/passes.rt:60:13
 returns-2 : tie.Need-returns-2 Inv-loop μ-loop
 returns-2 c =
     let l = c .before .before .before .before in
     λ w. omega (arith, w .1 (l .loop .k) (omega arith))
 
--- src/passes.rt:62:17
 add-least : tie.Need-add-least Inv-loop μ-loop
 add-least c =
     let l = c .before .before .before .before in
     omega (arith, c .before .before .shared-slice-known .given (l .loop .k))
 
--- src/passes.rt:63:9
 add-k : tie.Need-add-k Inv-loop μ-loop
 add-k c = omega arith
 
--- src/passes.rt:54:5
 loop-less : tie.Need-loop-less Inv-loop μ-loop
 loop-less c = omega arith
 
--- src/passes.rt:54:5
 loop-again : tie.Need-loop-again Inv-loop μ-loop
 loop-again c =
     let l = c .before .before .before .before in
@@ -68,7 +55,6 @@ loop-again c =
     = rising-more _ _ (l .loop .k) (l .loop .least) (l .loop .inv .1) (omega arith) (omega arith) in
     (omega arith, rw (add-one (l .loop .k), add-one (getD (now (l .before .args .starts)) (l .loop .k) 0)) r)
 
--- src/passes.rt:49:1
 returns-3 : tie.Need-returns-3 Inv-loop μ-loop
 returns-3 c =
     let l = c .before in

@@ -7,78 +7,57 @@ use Rattle.answers.proofs.TurnDown.{turned}
 use borrow.Author.Needs.{needs}
 use Rattle.answers.proofs.passes.turn_down.Statement.{statement}
 use Rattle.answers.proofs.passes.turn_down.Tie as tie
-use Rattle.answers.proofs.passes.turn_down.Reads as reads
-use Rattle.answers.proofs.passes.turn_down.Lts as lts
-use Rattle.answers.proofs.passes.above.Reads as above-reads
-use Rattle.answers.proofs.passes.pass_on.Reads as pass-on-reads
 
--- src/passes.rt:173:9
 above-requires : tie.Need-above-requires
 above-requires c κs =
     let s = c .before .before .before in
     (s .pre .0 .0, λ h. omega (arith, s .pre .0 .1, s .pre .1 h))
 
--- src/passes.rt:174:22
 mul-whole : tie.Need-mul-whole
 mul-whole c = search needs
 
--- src/passes.rt:174:17
 mul-whole-2 : tie.Need-mul-whole-2
 mul-whole-2 c = search needs
 
--- src/passes.rt:174:17
 slice-read-whole : tie.Need-slice-read-whole
 slice-read-whole c = search needs
 
--- src/passes.rt:174:44
 mul-whole-3 : tie.Need-mul-whole-3
 mul-whole-3 c = search needs
 
--- src/passes.rt:174:44
 add-whole : tie.Need-add-whole
 add-whole c = search needs
 
--- src/passes.rt:174:39
 mul-whole-4 : tie.Need-mul-whole-4
 mul-whole-4 c = search needs
 
--- src/passes.rt:174:39
 slice-read-whole-2 : tie.Need-slice-read-whole-2
 slice-read-whole-2 c = search needs
 
--- src/passes.rt:175:10
 mul-work : tie.Need-mul-work
 mul-work c = search needs
 
--- src/passes.rt:175:10
 add-work : tie.Need-add-work
 add-work c = search needs
 
--- src/passes.rt:175:5
 mul-work-2 : tie.Need-mul-work-2
 mul-work-2 c = search needs
 
--- src/passes.rt:175:5
 slice-write-work : tie.Need-slice-write-work
 slice-write-work c = search needs
 
--- src/passes.rt:176:18
 pass-on-requires : tie.Need-pass-on-requires
 pass-on-requires c κs = search needs
 
--- src/passes.rt:176:5
 mul-allowed : tie.Need-mul-allowed
 mul-allowed c = search needs
 
--- src/passes.rt:176:5
 element-write-allowed : tie.Need-element-write-allowed
 element-write-allowed c = search needs
 
--- src/passes.rt:168:1
 same-length : tie.Need-same-length
 same-length c = search needs
 
--- src/passes.rt:168:1
 returns : tie.Need-returns
 returns c =
     let s = c .before .before .before .before .before .before .before in

@@ -2,52 +2,37 @@
 use borrow.Author.Needs.{needs}
 use Rattle.answers.proofs.passes.turn_up.Statement.{statement}
 use Rattle.answers.proofs.passes.turn_up.Tie as tie
-use Rattle.answers.proofs.passes.turn_up.Reads as reads
-use Rattle.answers.proofs.passes.turn_up.Lts as lts
-use Rattle.answers.proofs.passes.hand_up.Reads as hand-up-reads
-use Rattle.answers.proofs.plan.fits.Reads as fits-reads
 
--- src/passes.rt:93:18
 mul-c : tie.Need-mul-c
 mul-c c = search needs
 
--- src/passes.rt:93:13
 mul-c-2 : tie.Need-mul-c-2
 mul-c-2 c = search needs
 
--- src/passes.rt:93:13
 slice-read-c : tie.Need-slice-read-c
 slice-read-c c = search needs
 
--- src/passes.rt:94:18
 mul-d : tie.Need-mul-d
 mul-d c = search needs
 
--- src/passes.rt:94:18
 add-d : tie.Need-add-d
 add-d c = search needs
 
--- src/passes.rt:94:13
 mul-d-2 : tie.Need-mul-d-2
 mul-d-2 c = search needs
 
--- src/passes.rt:94:13
 slice-read-d : tie.Need-slice-read-d
 slice-read-d c = search needs
 
--- src/passes.rt:95:9
 fits-requires : tie.Need-fits-requires
 fits-requires c κs = search needs
 
--- src/passes.rt:96:5
 hand-up-requires : tie.Need-hand-up-requires
 hand-up-requires c κs = search needs
 
--- src/passes.rt:89:1
 same-length : tie.Need-same-length
 same-length c = search needs
 
--- src/passes.rt:89:1
 returns : tie.Need-returns
 returns c = rw (← c .before .before .before .before .fits2 .ensures) (c .before .before .hand-up .ensures)
 
