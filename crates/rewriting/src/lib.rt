@@ -4,7 +4,9 @@ ghost use mathlib.Core.Path.{_≡_};
 ghost use lib.ListN.{length, getD};
 ghost use Rattle.tables.specs.Tree.{From};
 ghost use Rattle.tables.specs.Pattern.{Shape, shapeOf, patternOf, ValidPattern};
-ghost use Rattle.rewriting.specs.Candidate.{mainPath, Cut};
+ghost use lib.Dec.{T};
+ghost use Rattle.tables.specs.declared.Pattern.{Pattern};
+ghost use Rattle.rewriting.specs.Candidate.{mainPath, Cut, Candidate};
 use tables::Pattern;
 use tables::Refusal;
 use tables::StepNo;
@@ -93,4 +95,37 @@ fn cut(q: Pattern, c: usize) -> Pattern
         t += 1;
     }
     p
+}
+
+// Is there a candidate, and which? The pattern is zero where there is none.
+struct Found {
+    there: bool,
+    pattern: Pattern,
+}
+
+// The candidate for a query by a view: the query's cut at the step of its main path that is as deep as the view's output step, where there is such a step
+// and it has the label of that one.
+fn candidate(q: Pattern, v: Pattern) -> Found
+    requires { ⌜ ValidPattern q ⌝ }
+    requires { ⌜ ValidPattern v ⌝ }
+    ensures { λ r. ⌜ (T (r .there) → Candidate q v (r .pattern)) × ((E : Pattern) → Candidate q v E → T (r .there)) ⌝ }
+{
+    let none = Found {
+        there: false,
+        pattern: tables::no_pattern(),
+    };
+    let k = main_length(v);
+    let n = main_length(q);
+    if n < k {
+        return none;
+    }
+    let c = main_step(q, n - k);
+    let o = v.output.0 as usize;
+    if v.label[o] != q.label[c] {
+        return none;
+    }
+    Found {
+        there: true,
+        pattern: cut(q, c),
+    }
 }
