@@ -86,6 +86,7 @@ fn cut(q: Pattern, c: usize) -> Pattern
         output: StepNo(q.output.0 - less),
     };
     p.parent[0] = 255;
+    p.axis[0] = 0;
     p.label[0] = q.label[c];
     let mut t = 1;
     while t < n {

@@ -47,14 +47,17 @@ sub-t13 c = low (c .before) .1
 element-write-p : tie.Need-element-write-p Inv-loop μ-loop
 element-write-p c = omega arith
 
+element-write-p-2 : tie.Need-element-write-p-2 Inv-loop μ-loop
+element-write-p-2 c = omega arith
+
 mul-p : tie.Need-mul-p Inv-loop μ-loop
 mul-p c = omega (arith, low (c .before) .0)
 
 element-copy-out-p : tie.Need-element-copy-out-p Inv-loop μ-loop
 element-copy-out-p c = omega (arith, low (c .before) .0)
 
-element-write-p-2 : tie.Need-element-write-p-2 Inv-loop μ-loop
-element-write-p-2 c = omega arith
+element-write-p-3 : tie.Need-element-write-p-3 Inv-loop μ-loop
+element-write-p-3 c = omega arith
 
 loop-holds : tie.Need-loop-holds Inv-loop μ-loop
 unfolding tableOf cutShape
@@ -74,8 +77,8 @@ element-copy-out-p-2 c = omega (arith, late c .0)
 sub-p : tie.Need-sub-p Inv-loop μ-loop
 sub-p c = late (c .before) .1
 
-element-write-p-3 : tie.Need-element-write-p-3 Inv-loop μ-loop
-element-write-p-3 c = omega (arith, late (c .before) .0)
+element-write-p-4 : tie.Need-element-write-p-4 Inv-loop μ-loop
+element-write-p-4 c = omega (arith, late (c .before) .0)
 
 add-p-2 : tie.Need-add-p-2 Inv-loop μ-loop
 add-p-2 c = omega (arith, late (c .before) .0)
@@ -83,8 +86,8 @@ add-p-2 c = omega (arith, late (c .before) .0)
 element-copy-out-p-3 : tie.Need-element-copy-out-p-3 Inv-loop μ-loop
 element-copy-out-p-3 c = omega (arith, late (c .before) .0)
 
-element-write-p-4 : tie.Need-element-write-p-4 Inv-loop μ-loop
-element-write-p-4 c = omega (arith, late (c .before .before) .0)
+element-write-p-5 : tie.Need-element-write-p-5 Inv-loop μ-loop
+element-write-p-5 c = omega (arith, late (c .before .before) .0)
 
 add-p-3 : tie.Need-add-p-3 Inv-loop μ-loop
 add-p-3 c = omega (arith, late (c .before .before) .0)
@@ -98,8 +101,8 @@ element-copy-out-p-4 c = omega (arith, late (c .before .before) .0)
 mul-p-3 : tie.Need-mul-p-3 Inv-loop μ-loop
 mul-p-3 c = omega (arith, late (c .before .before .before) .0)
 
-element-write-p-5 : tie.Need-element-write-p-5 Inv-loop μ-loop
-element-write-p-5 c = omega (arith, late (c .before .before .before) .0)
+element-write-p-6 : tie.Need-element-write-p-6 Inv-loop μ-loop
+element-write-p-6 c = omega (arith, late (c .before .before .before) .0)
 
 add-t : tie.Need-add-t Inv-loop μ-loop
 add-t c = omega (arith, late (c .before .before .before) .0)
@@ -132,22 +135,23 @@ cut-spec =
     cast-less
     sub-t13
     element-write-p
+    element-write-p-2
     mul-p
     element-copy-out-p
-    element-write-p-2
+    element-write-p-3
     loop-holds
     add-p
     element-copy-out-p-2
     sub-p
-    element-write-p-3
+    element-write-p-4
     add-p-2
     element-copy-out-p-3
-    element-write-p-4
+    element-write-p-5
     add-p-3
     mul-p-2
     element-copy-out-p-4
     mul-p-3
-    element-write-p-5
+    element-write-p-6
     add-t
     loop-less
     loop-again
