@@ -19,40 +19,40 @@ use Rattle.joining.proofs.Started.{join-answers}
 use Rattle.joining.proofs.Assoc.{join-assoc-accepted, join-assoc}
 
 -- the answer is right exactly where the pair can be joined
-accepts : (U E : Pattern) (r : JoinAnswer) → Joins U E r → (r .answer ≡ checked.Right) ↔ Joinable U E
-accepts U E r h = go (r .answer) h
+pub called-accepts : (U E : Pattern) (r : JoinAnswer) → Joins U E r → (r .answer ≡ checked.Right) ↔ Joinable U E
+called-accepts U E r h = go (r .answer) h
   where
     go : (a : Checked) → Decided (joinChecks U E) a (r .pattern ≡ joinOf U E) (r .pattern ≡ zeroPattern) → (a ≡ checked.Right) ↔ Joinable U E
     go checked.Right k = (λ e. k .0, λ w. cc)
     go (checked.Refused q) k = (λ e. let z : _≡_ {A = ℕ} 0 1 = cc in absurd (omega arith), λ w. absurd (refuses-not-passes (joinChecks U E) q (k .0) w))
 
 -- and the pattern beside it is then the join
-gives : (U E : Pattern) (r : JoinAnswer) → Joins U E r → r .answer ≡ checked.Right → r .pattern ≡ joinOf U E
-gives U E r h e = subst (λ a. Decided (joinChecks U E) a (r .pattern ≡ joinOf U E) (r .pattern ≡ zeroPattern)) e h .1
+pub called-gives : (U E : Pattern) (r : JoinAnswer) → Joins U E r → r .answer ≡ checked.Right → r .pattern ≡ joinOf U E
+called-gives U E r h e = subst (λ a. Decided (joinChecks U E) a (r .pattern ≡ joinOf U E) (r .pattern ≡ zeroPattern)) e h .1
 
 -- a join that is handed out obeys the rules
 pub called-valid : (U E : Pattern) (r : JoinAnswer) → Joins U E r → r .answer ≡ checked.Right → ValidPattern (r .pattern)
-called-valid U E r h e = subst ValidPattern (sym (gives U E r h e)) (join-valid U E (accepts U E r h .0 e))
+called-valid U E r h e = subst ValidPattern (sym (called-gives U E r h e)) (join-valid U E (called-accepts U E r h .0 e))
 
 -- and has the answers of the compensation, started at the answers of the view
 pub called-answers : (U E : Pattern) (r : JoinAnswer) → Joins U E r → r .answer ≡ checked.Right → (d : Document) (i : ℕ)
     → Answer (shapeOf (r .pattern)) d i ↔ Started (Answer (shapeOf U) d) (shapeOf E) d i
 called-answers U E r h e d i =
-    subst (λ p. Answer (shapeOf p) d i ↔ Started (Answer (shapeOf U) d) (shapeOf E) d i) (sym (gives U E r h e)) (join-answers U E (accepts U E r h .0 e) d i)
+    subst (λ p. Answer (shapeOf p) d i ↔ Started (Answer (shapeOf U) d) (shapeOf E) d i) (sym (called-gives U E r h e)) (join-answers U E (called-accepts U E r h .0 e) d i)
 
 module _ (A B C : Pattern) (ab l bc r : JoinAnswer) (jab : Joins A B ab) (jl : Joins (ab .pattern) C l) (jbc : Joins B C bc) (jr : Joins A (bc .pattern) r) where
   -- the two calls of the one way answer exactly where the pairs can be joined
   left-right : ((ab .answer ≡ checked.Right) × (l .answer ≡ checked.Right)) ↔ (Joinable A B × Joinable (joinOf A B) C)
   left-right = (
-    λ w. (accepts A B ab jab .0 (w .0), subst (λ p. Joinable p C) (gives A B ab jab (w .0)) (accepts (ab .pattern) C l jl .0 (w .1))),
-    λ w. let e = accepts A B ab jab .1 (w .0) in (e, accepts (ab .pattern) C l jl .1 (subst (λ p. Joinable p C) (sym (gives A B ab jab e)) (w .1))),
+    λ w. (called-accepts A B ab jab .0 (w .0), subst (λ p. Joinable p C) (called-gives A B ab jab (w .0)) (called-accepts (ab .pattern) C l jl .0 (w .1))),
+    λ w. let e = called-accepts A B ab jab .1 (w .0) in (e, called-accepts (ab .pattern) C l jl .1 (subst (λ p. Joinable p C) (sym (called-gives A B ab jab e)) (w .1))),
   )
 
   -- and so do those of the other
   right-right : ((bc .answer ≡ checked.Right) × (r .answer ≡ checked.Right)) ↔ (Joinable B C × Joinable A (joinOf B C))
   right-right = (
-    λ w. (accepts B C bc jbc .0 (w .0), subst (Joinable A) (gives B C bc jbc (w .0)) (accepts A (bc .pattern) r jr .0 (w .1))),
-    λ w. let e = accepts B C bc jbc .1 (w .0) in (e, accepts A (bc .pattern) r jr .1 (subst (Joinable A) (sym (gives B C bc jbc e)) (w .1))),
+    λ w. (called-accepts B C bc jbc .0 (w .0), subst (Joinable A) (called-gives B C bc jbc (w .0)) (called-accepts A (bc .pattern) r jr .0 (w .1))),
+    λ w. let e = called-accepts B C bc jbc .1 (w .0) in (e, called-accepts A (bc .pattern) r jr .1 (subst (Joinable A) (sym (called-gives B C bc jbc e)) (w .1))),
   )
 
   -- joining three answers the one way exactly where it does the other
@@ -68,5 +68,5 @@ module _ (A B C : Pattern) (ab l bc r : JoinAnswer) (jab : Joins A B ab) (jl : J
       let x = left-right .0 (f, g) in
       let y = join-assoc-accepted A B C .0 x in
       let w = right-right .1 y in
-      gives (ab .pattern) C l jl g ∙ ap (λ p. joinOf p C) (gives A B ab jab f) ∙ join-assoc A B C (x .0) (x .1) (y .0) (y .1)
-      ∙ sym (gives A (bc .pattern) r jr (w .1) ∙ ap (joinOf A) (gives B C bc jbc (w .0)))
+      called-gives (ab .pattern) C l jl g ∙ ap (λ p. joinOf p C) (called-gives A B ab jab f) ∙ join-assoc A B C (x .0) (x .1) (y .0) (y .1)
+      ∙ sym (called-gives A (bc .pattern) r jr (w .1) ∙ ap (joinOf A) (called-gives B C bc jbc (w .0)))

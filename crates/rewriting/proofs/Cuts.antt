@@ -68,7 +68,7 @@ abbrev pub atZero : ℕ → ℕ → ℕ → ℕ
 atZero zero a b = a
 atZero (suc t) a b = b
 
-at-late : (t a b : ℕ) → 0 < t → atZero t a b ≡ b
+pub at-late : (t a b : ℕ) → 0 < t → atZero t a b ≡ b
 at-late zero a b l = absurd (omega arith)
 at-late (suc t) a b l = refl
 

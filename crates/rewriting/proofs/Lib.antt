@@ -3,6 +3,7 @@ pub mod MainPath
 pub mod Climbed
 pub mod Taken
 pub mod Cuts
+pub mod CutTable
 pub mod CutSends
 pub mod Depths
 pub mod Serving

@@ -3,10 +3,13 @@ ghost use Prim.Native.Nat.{ℕ, _+_, _-_, _<_};
 ghost use mathlib.Core.Path.{_≡_};
 ghost use lib.ListN.{length, getD};
 ghost use Rattle.tables.specs.Tree.{From};
-ghost use Rattle.tables.specs.Pattern.{shapeOf, ValidPattern};
-ghost use Rattle.rewriting.specs.Candidate.{mainPath};
+ghost use Rattle.tables.specs.Pattern.{Shape, shapeOf, patternOf, ValidPattern};
+ghost use lib.Dec.{T};
+ghost use Rattle.tables.specs.declared.Pattern.{Pattern};
+ghost use Rattle.rewriting.specs.Candidate.{mainPath, Cut, Candidate};
 use tables::Pattern;
 use tables::Refusal;
+use tables::StepNo;
 
 // The candidate is handed over; or there is no rewriting; or the pair is refused.
 pub enum Rewriting {
@@ -65,4 +68,65 @@ fn cut_size(p: Pattern, c: usize) -> usize
         u += 1;
     }
     u - c
+}
+
+// Step c of a pattern, which is on its main path, with all steps below it, as a compensation: zeros past its steps.
+fn cut(q: Pattern, c: usize) -> Pattern
+    requires { ⌜ ValidPattern q ⌝ }
+    requires { ⌜ From (shapeOf q .tree) c (shapeOf q .output) ⌝ }
+    ensures { λ r. ⌜ ((C : Shape) × Cut (shapeOf q) c C × (r ≡ patternOf C)) ⌝ }
+{
+    let n = cut_size(q, c);
+    let less = c as u8;
+    let mut p = Pattern {
+        parent: [0u8; 64],
+        axis: [0u8; 64],
+        label: [0u16; 64],
+        count: n,
+        output: StepNo(q.output.0 - less),
+    };
+    p.parent[0] = 255;
+    p.axis[0] = 0;
+    p.label[0] = q.label[c];
+    let mut t = 1;
+    while t < n {
+        p.parent[t] = q.parent[c + t] - less;
+        p.axis[t] = q.axis[c + t];
+        p.label[t] = q.label[c + t];
+        t += 1;
+    }
+    p
+}
+
+// Is there a candidate, and which? The pattern is zero where there is none.
+struct Found {
+    there: bool,
+    pattern: Pattern,
+}
+
+// The candidate for a query by a view: the query's cut at the step of its main path that is as deep as the view's output step, where there is such a step
+// and it has the label of that one.
+fn candidate(q: Pattern, v: Pattern) -> Found
+    requires { ⌜ ValidPattern q ⌝ }
+    requires { ⌜ ValidPattern v ⌝ }
+    ensures { λ r. ⌜ (T (r .there) → Candidate q v (r .pattern)) × ((E : Pattern) → Candidate q v E → T (r .there)) ⌝ }
+{
+    let none = Found {
+        there: false,
+        pattern: tables::no_pattern(),
+    };
+    let k = main_length(v);
+    let n = main_length(q);
+    if n < k {
+        return none;
+    }
+    let c = main_step(q, n - k);
+    let o = v.output.0 as usize;
+    if v.label[o] != q.label[c] {
+        return none;
+    }
+    Found {
+        there: true,
+        pattern: cut(q, c),
+    }
 }

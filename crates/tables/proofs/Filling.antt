@@ -20,9 +20,9 @@ pub record Filled (A : Shape) (k : ℕ) (p : Pattern) : Type 0 where
   pub labels : p .label ≡ padded (A .label) k
 
 -- none yet
-pub filled-none : (A : Shape) → A .tree .size ≤ 64 → Filled A 0 (tableOf (A .tree .size) (A .output) (replicate 64 0) (replicate 64 0) (replicate 64 0))
+pub filled-none : (A : Shape) (n o : ℕ) → n ≡ A .tree .size → o ≡ A .output → A .tree .size ≤ 64 → Filled A 0 (tableOf n o (replicate 64 0) (replicate 64 0) (replicate 64 0))
 unfolding blocks tableOf
-filled-none A l = record { low = omega arith; few = l; count = refl; output = refl; parents = refl; axes = refl; labels = refl }
+filled-none A n o e f l = record { low = omega arith; few = l; count = e; output = f; parents = refl; axes = refl; labels = refl }
 
 -- one more
 pub filled-next : {A : Shape} {k : ℕ} {p : Pattern} (x y z : ℕ) → Filled A k p → k < A .tree .size → x ≡ A .tree .parent k → y ≡ A .axis k → z ≡ A .label k

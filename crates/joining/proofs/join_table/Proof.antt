@@ -1,5 +1,6 @@
 -- `joining::join_table` meets its contract: the steps before the one looked at are written. Assumes nothing.
 use Prim.Native.Nat.{_-_}
+use mathlib.Core.Path.{refl}
 use native.Mathlib.Omega.{arith}
 use Rattle.tables.specs.Pattern.{shapeOf, tableOf}
 use Rattle.tables.proofs.Filling.{Filled, filled-none, filled-next, filled-all}
@@ -24,7 +25,7 @@ add-t11 c = omega arith
 
 loop-holds : tie.Need-loop-holds Inv-loop μ-loop
 unfolding joinShape tableOf
-loop-holds c = filled-none (joinShape (shapeOf (c .before .before .before .before .args .v)) (shapeOf (c .before .before .before .before .args .e))) (omega arith)
+loop-holds c = filled-none (joinShape (shapeOf (c .before .before .before .before .args .v)) (shapeOf (c .before .before .before .before .args .e))) _ _ refl refl (omega arith)
 
 joined-step-requires : tie.Need-joined-step-requires Inv-loop μ-loop
 unfolding joinShape

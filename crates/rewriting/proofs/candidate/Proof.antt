@@ -1,0 +1,110 @@
+-- `rewriting::candidate` meets its contract: the main paths, the label, and then the cut. Assumes nothing.
+use Prim.Native.Nat.{_-_, _≤_, _<_}
+use mathlib.Core.Path.{_≡_, sym, ap, _∙_, subst}
+use native.Mathlib.Omega.{arith}
+use lib.ListN.{length, getD}
+use Rattle.tables.specs.Tree.{From}
+use Rattle.tables.specs.Pattern.{shapeOf}
+use Rattle.tables.proofs.Rules.{shape-ordered}
+use Rattle.rewriting.specs.Candidate.{mainPath, cutStep, Cut}
+use Rattle.rewriting.proofs.CutTable.{cut-here}
+use Rattle.rewriting.proofs.MainPath.{main-length, cut-on-path}
+use borrow.Author.Needs.{needs}
+use Rattle.rewriting.proofs.candidate.Statement.{statement}
+use Rattle.rewriting.proofs.candidate.Tie as tie
+
+-- the entry, seen from where the step is found
+abbrev entry : tie.After-main-step → tie.Start
+entry x = x .before .before .before .before .before
+
+-- there the query's main path is long enough
+long : (x : tie.Else1) → length (mainPath (shapeOf (x .before .before .before .before .args .t2))) ≤ length (mainPath (shapeOf (x .before .before .before .before .args .t1)))
+long x = omega arith
+
+-- the step found is the cut step
+placed : (x : tie.After-main-step) → x .main-step .result ≡ cutStep (shapeOf (entry x .args .t1)) (shapeOf (entry x .args .t2))
+unfolding cutStep
+placed x =
+    x .main-step .ensures
+    ∙ ap (λ i. getD (mainPath (shapeOf (entry x .args .t1))) i 0)
+    {x = length (mainPath (shapeOf (entry x .args .t1))) - 1 - (x .before .before .main-length2 .result - x .before .before .before .main-length .result)}
+    {y = length (mainPath (shapeOf (entry x .args .t2))) - 1}
+    (omega (arith, long (x .before), main-length (entry x .pre .1)))
+
+-- and the output step is at or below it
+above : (x : tie.After-main-step) → From (shapeOf (entry x .args .t1) .tree) (x .main-step .result) (shapeOf (entry x .args .t1) .output)
+above x = subst (λ s. From (shapeOf (entry x .args .t1) .tree) s (shapeOf (entry x .args .t1) .output)) (sym (placed x)) (cut-on-path (entry x .pre .0) (entry x .pre .1) (long (x .before)) .0)
+
+-- so that it is a step of the query
+here : (x : tie.After-main-step) → x .main-step .result < 64
+here x = omega (arith, cut-here (entry x .args .t1) (entry x .pre .0) (x .main-step .result) (above x), entry x .pre .0 .few)
+
+no-pattern-requires : tie.Need-no-pattern-requires
+no-pattern-requires c κs = search needs
+
+main-length-requires : tie.Need-main-length-requires
+main-length-requires c κs = search needs
+
+main-length-requires-2 : tie.Need-main-length-requires-2
+main-length-requires-2 c κs = search needs
+
+returns : tie.Need-returns
+returns c = (λ b. absurd b, λ E k. omega (arith, k .long))
+
+main-step-requires : tie.Need-main-step-requires
+main-step-requires c κs = (c .before .before .before .before .pre .0, omega (arith, main-length (c .before .before .before .before .pre .1)))
+
+cast-o : tie.Need-cast-o
+cast-o c = search needs
+
+mul-if2 : tie.Need-mul-if2
+mul-if2 c = search needs
+
+element-copy-out-if2 : tie.Need-element-copy-out-if2
+element-copy-out-if2 c = search needs
+
+mul-if2-2 : tie.Need-mul-if2-2
+mul-if2-2 c = omega (arith, here (c .before))
+
+element-copy-out-if2-2 : tie.Need-element-copy-out-if2-2
+element-copy-out-if2-2 c = here (c .before)
+
+returns-2 : tie.Need-returns-2
+returns-2 c =
+    let x = c .before .before .before in
+    (λ b. absurd b, λ E k. omega (arith, k .same, ap (λ s. getD (entry x .args .t1 .label) s 0) (placed x)))
+
+cut-requires : tie.Need-cut-requires
+cut-requires c κs = (entry (c .before .before .before) .pre .0, above (c .before .before .before))
+
+returns-3 : tie.Need-returns-3
+returns-3 c =
+    let x = c .before .before .before .before in
+    let r = c .cut .ensures in (
+      λ t. record {
+        long = long (x .before);
+        same = omega (arith, ap (λ s. getD (entry x .args .t1 .label) s 0) (placed x));
+        shape = r .0;
+        cut = subst (λ s. Cut (shapeOf (entry x .args .t1)) s (r .0)) (placed x) (r .1);
+        table = r .2;
+      },
+      λ E k. tt,
+    )
+
+pub candidate-spec : {M : Type 1} → statement M
+candidate-spec =
+    tie.close
+    (tie.spec
+    no-pattern-requires
+    main-length-requires
+    main-length-requires-2
+    returns
+    main-step-requires
+    cast-o
+    mul-if2
+    element-copy-out-if2
+    mul-if2-2
+    element-copy-out-if2-2
+    returns-2
+    cut-requires
+    returns-3)

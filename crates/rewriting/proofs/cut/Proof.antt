@@ -1,0 +1,158 @@
+-- `rewriting::cut` meets its contract: step 0 is written first, then the steps before the one looked at. Assumes nothing.
+use Prim.Native.Nat.{ℕ, _+_, _-_, _≤_, _<_}
+use mathlib.Core.Path.{_≡_, refl, sym, ap}
+use native.Mathlib.Omega.{arith}
+use lib.ListN.{getD}
+use Rattle.tables.specs.Pattern.{shapeOf, tableOf}
+use Rattle.tables.proofs.Filling.{Filled, filled-none, filled-next, filled-all}
+use Rattle.rewriting.proofs.Cuts.{cutShape, at-late}
+use Rattle.rewriting.proofs.CutTable.{cut-here, cut-is, cut-rules, whole-size, cut-late}
+use Rattle.rewriting.proofs.cut.Statement.{statement}
+use Rattle.rewriting.proofs.cut.Tie as tie
+
+abbrev Inv-loop : tie.InvT-loop
+Inv-loop c q n less p₀ t₀ p t = (1 ≤ t) × Filled (cutShape (shapeOf q) c) t p
+
+abbrev μ-loop : tie.MeasureT-loop
+μ-loop c q n less p₀ t₀ p t = n - t
+
+-- step c is one of the pattern's, and not past the output step
+low : (x : tie.Start Inv-loop μ-loop) → (x .args .c < x .args .t1 .count) × (x .args .c ≤ x .args .t1 .output .0)
+low x = (
+  cut-here (x .args .t1) (x .pre .0) (x .args .c) (x .pre .1),
+  omega (arith, cut-is (x .args .t1) (x .pre .0) (x .args .c) (x .pre .1) .output),
+)
+
+-- the number of steps is the cut's
+sized : (x : tie.After-cut-size Inv-loop μ-loop) → x .cut-size .result ≡ cutShape (shapeOf (x .before .args .t1)) (x .before .args .c) .tree .size
+sized x = whole-size (x .before .args .t1) (x .before .pre .0) (x .before .args .c) (x .before .pre .1) (x .cut-size .result) (x .cut-size .ensures)
+
+-- a later step of the cut is a step of the pattern, and hangs on c or later
+late : (x : tie.In-loop Inv-loop μ-loop)
+    → (x .before .before .before .before .args .c + x .before .loop .t < x .before .before .before .before .args .t1 .count)
+    × (x .before .before .before .before .args .c ≤ getD (x .before .before .before .before .args .t1 .parent) (x .before .before .before .before .args .c + x .before .loop .t) 0)
+late x =
+    let a = x .before .before .before .before in
+    cut-late (a .args .t1) (a .pre .0) (a .args .c) (a .pre .1) (x .before .loop .t) (omega arith) (omega (arith, sized (x .before .before .before)))
+
+cut-size-requires : tie.Need-cut-size-requires Inv-loop μ-loop
+cut-size-requires c κs = (c .pre .0, low c .0)
+
+cast-less : tie.Need-cast-less Inv-loop μ-loop
+cast-less c = omega (arith, low (c .before) .0)
+
+sub-t13 : tie.Need-sub-t13 Inv-loop μ-loop
+sub-t13 c = low (c .before) .1
+
+element-write-p : tie.Need-element-write-p Inv-loop μ-loop
+element-write-p c = omega arith
+
+element-write-p-2 : tie.Need-element-write-p-2 Inv-loop μ-loop
+element-write-p-2 c = omega arith
+
+mul-p : tie.Need-mul-p Inv-loop μ-loop
+mul-p c = omega (arith, low (c .before) .0)
+
+element-copy-out-p : tie.Need-element-copy-out-p Inv-loop μ-loop
+element-copy-out-p c = omega (arith, low (c .before) .0)
+
+element-write-p-3 : tie.Need-element-write-p-3 Inv-loop μ-loop
+element-write-p-3 c = omega arith
+
+loop-holds : tie.Need-loop-holds Inv-loop μ-loop
+unfolding tableOf cutShape
+loop-holds c =
+    let a = c .before .before in
+    let m = sized (c .before) in
+    let v = cut-rules (a .args .t1) (a .pre .0) (a .args .c) (a .pre .1) in
+    let z : a .args .c ≡ a .args .c + 0 = omega arith in
+    (omega arith, filled-next 255 0 (getD (a .args .t1 .label) (a .args .c) 0) (filled-none (cutShape (shapeOf (a .args .t1)) (a .args .c)) (c .before .cut-size .result) (a .args .t1 .output .0 - a .args .c) m refl (v .few)) (v .some) refl refl (ap (λ x. getD (a .args .t1 .label) x 0) z))
+
+add-p : tie.Need-add-p Inv-loop μ-loop
+add-p c = omega (arith, late c .0)
+
+element-copy-out-p-2 : tie.Need-element-copy-out-p-2 Inv-loop μ-loop
+element-copy-out-p-2 c = omega (arith, late c .0)
+
+sub-p : tie.Need-sub-p Inv-loop μ-loop
+sub-p c = late (c .before) .1
+
+element-write-p-4 : tie.Need-element-write-p-4 Inv-loop μ-loop
+element-write-p-4 c = omega (arith, late (c .before) .0)
+
+add-p-2 : tie.Need-add-p-2 Inv-loop μ-loop
+add-p-2 c = omega (arith, late (c .before) .0)
+
+element-copy-out-p-3 : tie.Need-element-copy-out-p-3 Inv-loop μ-loop
+element-copy-out-p-3 c = omega (arith, late (c .before) .0)
+
+element-write-p-5 : tie.Need-element-write-p-5 Inv-loop μ-loop
+element-write-p-5 c = omega (arith, late (c .before .before) .0)
+
+add-p-3 : tie.Need-add-p-3 Inv-loop μ-loop
+add-p-3 c = omega (arith, late (c .before .before) .0)
+
+mul-p-2 : tie.Need-mul-p-2 Inv-loop μ-loop
+mul-p-2 c = omega (arith, late (c .before .before) .0)
+
+element-copy-out-p-4 : tie.Need-element-copy-out-p-4 Inv-loop μ-loop
+element-copy-out-p-4 c = omega (arith, late (c .before .before) .0)
+
+mul-p-3 : tie.Need-mul-p-3 Inv-loop μ-loop
+mul-p-3 c = omega (arith, late (c .before .before .before) .0)
+
+element-write-p-6 : tie.Need-element-write-p-6 Inv-loop μ-loop
+element-write-p-6 c = omega (arith, late (c .before .before .before) .0)
+
+add-t : tie.Need-add-t Inv-loop μ-loop
+add-t c = omega (arith, late (c .before .before .before) .0)
+
+loop-less : tie.Need-loop-less Inv-loop μ-loop
+loop-less c = omega arith
+
+loop-again : tie.Need-loop-again Inv-loop μ-loop
+unfolding cutShape
+loop-again c =
+    let l = c .before .before .before .before .loop in
+    let x = c .before .before .before .before .before .before in
+    let q = x .before .args .t1 in
+    let k = x .before .args .c + l .t in
+    (omega arith, filled-next (getD (q .parent) k 0 - x .before .args .c) (getD (q .axis) k 0) (getD (q .label) k 0) (l .inv .1) (omega (arith, sized x)) (sym (at-late (l .t) _ _ (l .inv .0))) (sym (at-late (l .t) _ _ (l .inv .0))) refl)
+
+returns : tie.Need-returns Inv-loop μ-loop
+returns c =
+    let x = c .before .before .before in
+    let a = x .before in
+    (cutShape (shapeOf (a .args .t1)) (a .args .c), cut-is (a .args .t1) (a .pre .0) (a .args .c) (a .pre .1), filled-all (c .before .loop .inv .1) (omega (arith, sized x)))
+
+pub cut-spec : {M : Type 1} → statement M
+cut-spec =
+    tie.close
+    (tie.spec
+    Inv-loop
+    μ-loop
+    cut-size-requires
+    cast-less
+    sub-t13
+    element-write-p
+    element-write-p-2
+    mul-p
+    element-copy-out-p
+    element-write-p-3
+    loop-holds
+    add-p
+    element-copy-out-p-2
+    sub-p
+    element-write-p-4
+    add-p-2
+    element-copy-out-p-3
+    element-write-p-5
+    add-p-3
+    mul-p-2
+    element-copy-out-p-4
+    mul-p-3
+    element-write-p-6
+    add-t
+    loop-less
+    loop-again
+    returns)
