@@ -9,3 +9,4 @@ pub mod FreshLabel
 pub mod Contained
 pub mod Deciding
 pub mod Unique
+pub mod Masks

@@ -3,6 +3,9 @@ ghost use Prim.Native.Nat.{ℕ, _+_, _≤_, _<_};
 ghost use mathlib.Core.Path.{_≡_};
 ghost use Rattle.tables.specs.Pattern.{shapeOf, ValidPattern};
 ghost use Rattle.containment.specs.Feasible.{FreshOr0};
+
+mod fitting;
+
 use tables::NodeNo;
 use tables::Pattern;
 use tables::Refusal;
