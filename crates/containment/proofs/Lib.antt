@@ -10,3 +10,5 @@ pub mod Contained
 pub mod Deciding
 pub mod Unique
 pub mod Masks
+pub mod StepFits
+pub mod Lifted

@@ -84,3 +84,32 @@ fn fits(b: Pattern, l: u16, last: bool, c: u64, d: u64) -> u64
     let o = one_bit(b.output.0 as usize);
     z ^ (z & o)
 }
+
+// Step i gets what fits at it, f; its parent p gathers f below it, and g, what of f fits along a child edge.
+fn hand_up(fit: &mut [u64; 64], under: &mut [u64; 64], i: usize, p: usize, f: u64, g: u64)
+    requires { ⌜ (p < i) × (i < 64) ⌝ }
+    ensures fitting { λ _. ⌜ now (fit .exit) ≡ set (set (now (fit .entry)) i f) p (bitOr (getD (set (now (fit .entry)) i f) p 0) g) ⌝ }
+    ensures below { λ _. ⌜ now (under .exit) ≡ set (now (under .entry)) p (bitOr (bitOr (getD (now (under .entry)) p 0) f) (getD (now (under .entry)) i 0)) ⌝ }
+{
+    fit[i] = f;
+    fit[p] = fit[p] | g;
+    under[p] = under[p] | f | under[i];
+}
+
+// Which steps of b fit at each step of a, in a table of zeros: from the last step of a to the first.
+pub(crate) fn lift(a: Pattern, b: Pattern, fit: &mut [u64; 64])
+    requires { ⌜ ValidPattern a × ValidPattern b ⌝ }
+    requires { ⌜ now fit ≡ replicate 64 0 ⌝ }
+    ensures { λ _. ⌜ FitTable (shapeOf b) (shapeOf a) (now (fit .exit)) ⌝ }
+{
+    let mut under = [0u64; 64];
+    let output = a.output.0 as usize;
+    let mut i = a.count;
+    while 1 < i {
+        i -= 1;
+        let f = fits(b, a.label[i], i == output, fit[i], under[i]);
+        let g = mask_for(a.axis[i], f, 0);
+        hand_up(fit, &mut under, i, a.parent[i] as usize, f, g);
+    }
+    fit[0] = fits(b, a.label[0], 0 == output, fit[0], under[0]);
+}
