@@ -12,3 +12,5 @@ pub mod Unique
 pub mod Masks
 pub mod StepFits
 pub mod Lifted
+pub mod Images
+pub mod Greedily

@@ -1,16 +1,15 @@
 -- The masks of steps that a turn over the steps of B gathers, and the steps of B that fit by them. Assumes nothing.
-use Prim.Native.Nat.{ℕ, _+_, _^_, _≤_, _<_}
+use Prim.Native.Nat.{ℕ, _+_, _^_, _<_}
 use mathlib.Core.Path.{_≡_, refl, sym, ap, _∙_, subst}
-use mathlib.Core.Logic.{_⊎_, inl, inr, ⊎-elim, _↔_}
+use mathlib.Core.Logic.{_⊎_, inl, inr, ⊎-elim}
 use mathlib.Core.Bool.{Bool, true, false}
 use native.Mathlib.Omega.{arith}
 use native.Mathlib.Decide.{ℕ-discrete}
 use lib.Bits.{bitOr, bitAnd, bitXor}
-use lib.Dec.{T}
 use Rattle.tables.specs.Bits.{bit, Marks}
 use Rattle.tables.specs.Tree.{Child}
 use Rattle.tables.specs.Pattern.{Shape}
-use Rattle.tables.proofs.Marks.{bit-cases, marks-none, marks-to, marks-one, marks-or, marks-with, marks-without}
+use Rattle.tables.proofs.Marks.{bit-cases, marks-none, marks-to, marks-one, marks-with, marks-without}
 use Rattle.containment.specs.Feasible.{maskFor, OfLabel, Lacks, FitsBy}
 
 -- below k, with Q

@@ -1,16 +1,15 @@
 -- Which steps of B fit at a step of A, from those that fit at its children and below: one turn of the recursion that decides mappings. Assumes nothing.
-use Prim.Native.Nat.{ℕ, zero, suc, _+_, _≤_, _<_}
+use Prim.Native.Nat.{ℕ, zero, suc, _<_}
 use mathlib.Core.Path.{_≡_, refl, sym, ap, _∙_, subst}
-use mathlib.Core.Logic.{_⊎_, inl, inr, ⊎-elim, _↔_}
+use mathlib.Core.Logic.{_↔_}
 use mathlib.Core.Bool.{Bool}
-use native.Mathlib.Omega.{arith}
 use lib.Dec.{T}
 use Rattle.tables.specs.Bits.{bit, Marks}
 use Rattle.tables.specs.Tree.{Child, Below, From}
 use Rattle.tables.specs.Pattern.{Shape, rowsOf, ValidShape}
 use Rattle.tables.proofs.Marks.{marks-to}
 use Rattle.tables.proofs.Rules.{shape-ordered}
-use Rattle.placing.specs.Placement.{Takes, Goes, SendsFrom}
+use Rattle.placing.specs.Placement.{Goes}
 use Rattle.placing.proofs.Fit.{Able, able, able-ok, able-next, fit-able, able-fit}
 use Rattle.containment.specs.Feasible.{maskFor, FitsBy, FitsIn}
 use Rattle.containment.proofs.Deciding.{mapTask}

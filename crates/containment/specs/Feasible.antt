@@ -4,8 +4,10 @@
 --   FitsBy     a step of B that fits at a step of A, by what fits below that
 --   FitsIn     a step of B that fits at a step of A
 --   FitTable   a table of the steps of B that fit at each step of A
+--   Picks      the smallest number of a kind
+--   Chosen     the smallest mapping as an array
 -- Assumes nothing.
-use Prim.Native.Nat.{ℕ, zero, suc, _+_, _≤_, _<_}
+use Prim.Native.Nat.{ℕ, zero, suc, _≤_, _<_}
 use mathlib.Core.Path.{_≡_}
 use mathlib.Core.Logic.{_⊎_}
 use mathlib.Core.Bool.{Bool}
@@ -16,6 +18,9 @@ use Rattle.tables.specs.Bits.{bit, Marks}
 use Rattle.tables.specs.Tree.{Child, From}
 use Rattle.tables.specs.Pattern.{Shape, rowsOf}
 use Rattle.placing.specs.Placement.{SendsFrom}
+use Rattle.tables.specs.declared.StepNo.{StepNo}
+use Rattle.containment.specs.Mapping.{LeastMap}
+use Rattle.containment.specs.Containment.{mappingArray}
 use Rattle.containment.specs.Witness.{Stands, Fresh}
 
 -- 0 says that every label stands at a step of A or of B
@@ -51,3 +56,14 @@ pub record FitsIn (B A : Shape) (s t : ℕ) : Type 0 where
 -- entry s has the steps of B that fit at step s of A
 abbrev pub FitTable : Shape → Shape → List ℕ → Type 0
 FitTable B A table = (s : ℕ) → s < A .tree .size → Marks (getD table s 0) (FitsIn B A s)
+
+-- r is the smallest number with X, below 64; or 64, where there is none
+pub data Picks (X : ℕ → Type 0) (r : ℕ) : Type 0 where
+  picked : r < 64 → X r → ((j : ℕ) → X j → r ≤ j) → Picks X r
+  nothing : r ≡ 64 → ((j : ℕ) → X j → ⊥) → Picks X r
+
+-- the array holds the smallest mapping of B into A
+pub record Chosen (B A : Shape) (mapping : List StepNo) : Type 0 where
+  pub by : ℕ → ℕ
+  pub least : LeastMap B A by
+  pub array : mapping ≡ mappingArray by (B .tree .size)

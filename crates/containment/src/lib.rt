@@ -4,6 +4,7 @@ ghost use mathlib.Core.Path.{_≡_};
 ghost use Rattle.tables.specs.Pattern.{shapeOf, ValidPattern};
 ghost use Rattle.containment.specs.Feasible.{FreshOr0};
 
+mod choosing;
 mod fitting;
 
 use tables::NodeNo;
