@@ -31,10 +31,17 @@ module _ {X : ℕ → Type 0} where
   pick-some (picked l x f) j y = l
   pick-some (nothing e f) j y = absurd (f j y)
 
+  -- what is not 64 is below it
+  pub pick-below : {r : ℕ} → Picks X r → (r ≡ 64 → ⊥) → r < 64
+  pick-below (picked l x f) n = l
+  pick-below (nothing e f) n = absurd (n e)
+
+  -- 64 says that there is none
   pub pick-none : {r : ℕ} → Picks X r → r ≡ 64 → (j : ℕ) → X j → ⊥
   pick-none (picked l x f) e j y = omega arith
   pick-none (nothing e f) h j y = f j y
 
+  -- of two kinds that are one
   pub pick-to : {Y : ℕ → Type 0} {r : ℕ} → ((j : ℕ) → X j → Y j) → ((j : ℕ) → Y j → X j) → Picks X r → Picks Y r
   pick-to f g (picked l x h) = picked l (f _ x) (λ j y. h j (g j y))
   pick-to f g (nothing e h) = nothing e (λ j y. h j (g j y))

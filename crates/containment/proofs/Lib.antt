@@ -14,3 +14,4 @@ pub mod StepFits
 pub mod Lifted
 pub mod Images
 pub mod Greedily
+pub mod Verdicts
