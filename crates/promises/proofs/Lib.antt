@@ -1,2 +1,3 @@
 -- Theorems over the contracts of several calls. Assumes nothing.
 pub mod Joining
+pub mod Rewriting
