@@ -15,7 +15,7 @@ use Rattle.tables.specs.Bits.{bit, Marks}
 use Rattle.tables.specs.Tree.{Child, From}
 use Rattle.tables.specs.Document.{Document, nodeCount, nodesOf}
 use Rattle.tables.specs.Pattern.{Shape}
-use Rattle.placing.specs.Answer.{Started, Lists}
+use Rattle.placing.specs.Answer.{Ascending, Started, Lists}
 use Rattle.answers.specs.Working.{FitsAt, PlacedAt}
 
 -- step s fits at a child of node i that is k or later
@@ -80,3 +80,7 @@ pub record Listed (A : Shape) (d : Document) (First : ℕ → Type 0) (k c : ℕ
 pub record Noted (whole output i c : ℕ) (before : List ℕ) (r : ℕ) (after : List ℕ) : Type 0 where
   pub put : bit whole output ≡ 1 → (r ≡ c + 1) × (after ≡ set before c i)
   pub skip : (bit whole output ≡ 1 → ⊥) → (r ≡ c) × (after ≡ before)
+
+-- a start list is strictly ascending and below n
+abbrev pub StartsRight : List ℕ → ℕ → Type 0
+StartsRight xs n = Ascending xs × ((k : ℕ) → k < length xs → getD xs k 0 < n)

@@ -7,9 +7,9 @@ ghost use lib.ListN.{length, getD, drop, set, replicate};
 ghost use Rattle.tables.specs.Bits.{Marks};
 ghost use Rattle.answers.specs.Plan.{Says, fitMask, PlanOf, ChildPlan, PassedOn};
 ghost use Rattle.answers.specs.Answers.{Found};
-ghost use Rattle.answers.specs.Passes.{Upward, Handed, Marked, Ready, Downward, Noted};
+ghost use Rattle.answers.specs.Passes.{Upward, Handed, Marked, Ready, Downward, Noted, StartsRight};
 ghost use Rattle.answers.specs.Working.{PlacedAt};
-ghost use Rattle.placing.specs.Answer.{In, Ascending};
+ghost use Rattle.placing.specs.Answer.{In};
 ghost use Rattle.tables.specs.Document.{ValidDocument};
 ghost use Rattle.tables.specs.Pattern.{Shape, shapeOf, ValidPattern};
 use crate::plan;
@@ -53,7 +53,7 @@ fn above(allowed: &[u64; 2048], parents: &[u16], i: usize) -> u64
 
 // Is the list strictly ascending, with every entry below n?
 pub(crate) fn starts_right(starts: &[u16], n: usize) -> bool
-    ensures { λ r. ⌜ Says r (Ascending (now (starts .entry)) × ((k : ℕ) → k < length (now (starts .entry)) → getD (now (starts .entry)) k 0 < n)) ⌝ }
+    ensures { λ r. ⌜ Says r (StartsRight (now (starts .entry)) n) ⌝ }
 {
     let mut k = 0;
     let mut least: usize = 0;

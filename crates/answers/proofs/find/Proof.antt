@@ -1,3 +1,8 @@
+-- Both passes, with the start nodes of the plain form marked between them. Assumes nothing.
+use Rattle.tables.specs.Pattern.{shapeOf}
+use Rattle.placing.specs.Answer.{Begins}
+use Rattle.answers.proofs.Listed.{found-first}
+use Rattle.answers.proofs.Finding.{found-before, plain-ready, plain-first, plain-length, plain-rest}
 use borrow.Author.Needs.{needs}
 use Rattle.answers.proofs.find.Statement.{statement}
 use Rattle.answers.proofs.find.Tie as tie
@@ -24,19 +29,28 @@ slice-write-work c = search needs
 
 -- src/lib.rt:26:5
 descend-requires : tie.Need-descend-requires
-descend-requires c κs = ?
+descend-requires c κs =
+    let s = c .before .before .before .before .before .before .before .before .before .before .before in
+    let v = s .pre .1 .0 in
+    (s .pre .0, (v, (s .pre .1 .1 .0, plain-ready (shapeOf (s .args .t1)) _ (s .pre .0) v _ _ (s .pre .1 .1 .1) (c .before .before .before .before .rise .ensures))))
 
 -- src/lib.rt:17:1
 same-length : tie.Need-same-length
 same-length c = search needs
 
 -- src/lib.rt:17:1
-same-length-2 : tie.Need-same-length-2
-same-length-2 c = ?
+returns : tie.Need-returns
+returns c =
+    let s = c .before .before .before .before .before .before .before .before .before .before .before .before .before .before .before .before in
+    let v = s .pre .1 .0 in
+    let A = shapeOf (s .args .t1) in
+    let u = c .before .before .before .before .before .before .before .before .before .rise .ensures in
+    found-first A _ _ (Begins A) (s .pre .0) (plain-first A _ (s .pre .0) v _ _ (s .pre .1 .1 .1) u) _ _ _ _ _
+    (found-before A _ _ _ _ _ _ _ _ (plain-length A _ (s .pre .0) v _ _ (s .pre .1 .1 .1) u) (plain-rest A _ (s .pre .0) v _ _ (s .pre .1 .1 .1) u) (c .before .before .before .before .descend .ensures))
 
 -- src/lib.rt:17:1
-returns : tie.Need-returns
-returns c = ?
+same-length-2 : tie.Need-same-length-2
+same-length-2 c = returns c .working .same-length
 
 pub find-spec : {M : Type 1} → statement M
 find-spec =

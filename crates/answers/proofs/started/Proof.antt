@@ -1,0 +1,152 @@
+-- The checks in their order, the start before the room, then both passes. Assumes nothing.
+use Prim.Native.Nat.{ℕ, _*_, _≤_, _<_}
+use mathlib.Core.Path.{_≡_, refl, subst}
+use mathlib.Core.Logic.{inl, inr, ⊎-elim}
+use denote.Ref.{now}
+use lib.ListN.{length}
+use native.Mathlib.Omega.{arith}
+use Rattle.tables.specs.Document.{ValidDocument}
+use Rattle.tables.specs.Pattern.{shapeOf, ValidPattern}
+use Rattle.tables.specs.Checks.{ChecksPattern, ChecksDocument}
+use Rattle.placing.specs.Answer.{StartList}
+use Rattle.answers.proofs.Starts.{says-passed, says-failed}
+use Rattle.answers.specs.Passes.{StartsRight}
+use borrow.Author.Needs.{needs}
+use Rattle.answers.proofs.started.Statement.{statement}
+use Rattle.answers.proofs.started.Tie as tie
+use Rattle.answers.proofs.started.Reads as reads
+use Rattle.answers.proofs.started.Lts as lts
+use Rattle.answers.proofs.find_started.Reads as find-started-reads
+use Rattle.answers.proofs.passes.starts_right.Reads as starts-right-reads
+use Rattle.tables.proofs.check_document.Reads as check-document-reads
+use Rattle.tables.proofs.check_pattern.Reads as check-pattern-reads
+
+-- the first check passed
+patterned : (x : tie.After-enum-told) → ValidPattern (x .before .before .before .before .before .before .before .before .args .t1)
+patterned x = subst (ChecksPattern (x .before .before .before .before .before .before .before .before .args .t1)) (x .enum-told .given .1) (x .before .before .check-pattern .ensures) .0 .0
+
+-- and the second
+documented : (y : tie.After-enum-told2)
+    → ValidDocument (record { parents = now (y .before .before .before .before .before .before .before .before .before .before .before .args .parents); labels = now (y .before .before .before .before .before .before .before .before .before .before .before .args .labels) })
+documented y =
+    let s = y .before .before .before .before .before .before .before .before .before .before .before in
+    subst (ChecksDocument (record { parents = now (s .args .parents); labels = now (s .args .labels) })) (y .enum-told2 .given .1) (y .before .before .check-document .ensures) .0 .0
+
+-- and the start
+begun : (z : tie.Else2) → (shapeOf (z .before .before .before .before .before .before .before .before .before .before .before .before .before .before .before .args .t1) .axis 0 ≡ 0)
+    × StartList (record { parents = now (z .before .before .before .before .before .before .before .before .before .before .before .before .before .before .before .args .parents); labels = now (z .before .before .before .before .before .before .before .before .before .before .before .before .before .before .before .args .labels) }) (now (z .before .before .before .before .before .before .before .before .before .before .before .before .before .before .before .args .starts))
+begun z =
+    let w = says-passed (StartsRight (now (z .before .before .before .before .before .before .before .before .before .before .before .before .before .before .before .args .starts)) _) (z .before .starts-right .result) (z .if2 .left) (z .before .starts-right .ensures) in
+    (z .before .before .if1 .left, record { ascending = w .0; nodes = w .1 })
+
+-- src/lib.rt:69:34
+check-pattern-requires : tie.Need-check-pattern-requires
+check-pattern-requires c κs = search needs
+
+-- src/lib.rt:69:29
+enum-known-r : tie.Need-enum-known-r
+enum-known-r c = search needs
+
+-- src/lib.rt:70:9
+returns : tie.Need-returns
+returns c =
+    let s = c .before .before .before .before .before .before .before .before .before in
+    let v = subst (ChecksPattern (s .args .t1)) (c .before .r .given .1) (c .before .before .before .check-pattern .ensures) in
+    (⊎-elim inl (λ w. absurd (w .1)) (v .0), (refl, refl))
+
+enum-told : tie.Need-enum-told
+enum-told c = search needs
+
+-- src/lib.rt:72:34
+check-document-requires : tie.Need-check-document-requires
+check-document-requires c κs = search needs
+
+-- src/lib.rt:72:29
+enum-known-r-2 : tie.Need-enum-known-r-2
+enum-known-r-2 c = search needs
+
+-- src/lib.rt:73:9
+returns-2 : tie.Need-returns-2
+returns-2 c =
+    let x = c .before .before .before .before in
+    let s = x .before .before .before .before .before .before .before .before in
+    let v = subst (ChecksDocument (record { parents = now (s .args .parents); labels = now (s .args .labels) })) (c .before .r2 .given .1) (c .before .before .before .check-document .ensures) in
+    (inr (patterned x, ⊎-elim inl (λ w. absurd (w .1)) (v .0)), (refl, refl))
+
+enum-told-2 : tie.Need-enum-told-2
+enum-told-2 c = search needs
+
+-- src/lib.rt:76:8
+element-copy-out-if1 : tie.Need-element-copy-out-if1
+element-copy-out-if1 c = search needs
+
+-- src/lib.rt:77:9
+returns-3 : tie.Need-returns-3
+returns-3 c =
+    let y = c .before .before in
+    (inr (patterned (y .before .before .before), inr (documented y, inl (λ w. c .if1 .taken (w .0), refl))), (refl, refl))
+
+-- src/lib.rt:79:9
+starts-right-requires : tie.Need-starts-right-requires
+starts-right-requires c κs = search needs
+
+-- src/lib.rt:80:9
+returns-4 : tie.Need-returns-4
+returns-4 c =
+    let y = c .before .before .before .before in
+    (inr (patterned (y .before .before .before), inr (documented y, inl (λ w. says-failed (StartsRight (now (c .before .before .before .before .before .before .before .before .before .before .before .before .before .before .before .args .starts)) _) (c .before .starts-right .result) (c .if2 .taken) (c .before .starts-right .ensures) (w .1 .ascending, w .1 .nodes), refl))), (refl, refl))
+
+-- src/lib.rt:83:9
+returns-5 : tie.Need-returns-5
+returns-5 c =
+    let y = c .before .before .before .before .before in
+    (inr (patterned (y .before .before .before), inr (documented y, inr (begun (c .before), inl (λ w. omega (arith, w .0), refl)))), (refl, refl))
+
+-- src/lib.rt:86:9
+returns-6 : tie.Need-returns-6
+returns-6 c =
+    let y = c .before .before .before .before .before .before in
+    (inr (patterned (y .before .before .before), inr (documented y, inr (begun (c .before .before), inl (λ w. omega (arith, w .1), refl)))), (refl, refl))
+
+-- src/lib.rt:88:20
+find-started-requires : tie.Need-find-started-requires
+find-started-requires c κs =
+    let y = c .before .before .before .before .before .before .before .before in
+    (patterned (y .before .before .before), (documented y, (begun (c .before .before .before .before) .1 .nodes, (omega arith, omega arith))))
+
+-- src/lib.rt:66:1
+same-length : tie.Need-same-length
+same-length c = search needs
+
+-- src/lib.rt:66:1
+same-length-2 : tie.Need-same-length-2
+same-length-2 c = search needs
+
+-- src/lib.rt:66:1
+returns-7 : tie.Need-returns-7
+returns-7 c =
+    let y = c .before .before .before .before .before .before .before .before .before .before .before .before .before in
+    ((patterned (y .before .before .before), (documented y, (begun (c .before .before .before .before .before .before .before .before .before), ((omega arith, omega arith), tt)))), c .before .before .before .before .find-started .ensures)
+
+pub started-spec : {M : Type 1} → statement M
+started-spec =
+    tie.close
+    (tie.spec
+    check-pattern-requires
+    enum-known-r
+    returns
+    enum-told
+    check-document-requires
+    enum-known-r-2
+    returns-2
+    enum-told-2
+    element-copy-out-if1
+    returns-3
+    starts-right-requires
+    returns-4
+    returns-5
+    returns-6
+    find-started-requires
+    same-length
+    same-length-2
+    returns-7)

@@ -1,0 +1,2 @@
+-- Theorems over the contracts of several calls. Assumes nothing.
+pub mod Joining

@@ -1,0 +1,1 @@
+-- The theorems stand in proofs/. Assumes nothing.

@@ -1,0 +1,224 @@
+// Runs the cases of flight line seven (docs/RULES.md, "Flight line seven") that the calls cover, and prints what they find. What it prints is compared with the file
+// `stdout`.
+ghost use Prim.Native.Nat.{ℕ, _+_, _*_, _≤_, _<_};
+ghost use lib.ListN.{length};
+use tables::Counted;
+use tables::Refusal;
+
+// The flight line as a packet.
+const LINE: [u8; 31] =
+    *b"\x01\x00\x1C\xFF\xFF\x00\x01\x00\x00\x00\x02\x00\x01\x00\x05\x00\x01\x00\x03\x00\x03\x00\x04\x00\x00\x00\x02\x00\x05\x00\x03";
+
+fn wide(x: u16) -> u64 {
+    x as u64
+}
+
+fn wide_byte(x: u8) -> u64 {
+    x as u64
+}
+
+fn say(words: &[u8]) {
+    io::write_all(1, words);
+}
+
+// The number of a refusal.
+fn number(r: Refusal) -> u64 {
+    match r {
+        Refusal::Version => 1,
+        Refusal::Length => 2,
+        Refusal::BadPattern => 3,
+        Refusal::BadDocument => 4,
+        Refusal::Room => 5,
+        Refusal::Start => 6,
+        Refusal::OtherLabel => 7,
+        Refusal::TooLarge => 8,
+        Refusal::NoLabel => 9,
+    }
+}
+
+fn say_refused(r: Refusal) {
+    say(b"refused ");
+    io::print_decimal(1, number(r));
+    say(b"\n");
+}
+
+// The first c entries of a list, each after a space.
+fn say_list(list: &[u16], c: usize) {
+    let mut i = 0;
+    while i < list.len() {
+        if i < c {
+            say(b" ");
+            io::print_decimal(1, wide(list[i]));
+        }
+        i += 1;
+    }
+    say(b"\n");
+}
+
+// The first c entries of a working list.
+fn say_work(work: &[u64], c: usize) {
+    let mut i = 0;
+    while i < work.len() {
+        if i < c {
+            say(b" ");
+            io::print_decimal(1, work[i]);
+        }
+        i += 1;
+    }
+    say(b"\n");
+}
+
+// The first c bytes, in hexadecimal.
+fn say_bytes(bytes: &[u8], c: usize) {
+    let mut i = 0;
+    while i < bytes.len() {
+        if i < c {
+            say(b" ");
+            io::print_hex(1, wide_byte(bytes[i]), 2);
+        }
+        i += 1;
+    }
+    say(b"\n");
+}
+
+// The answers of a pattern packet on the flight line, and with `more` its working list and its packet written back.
+fn run(packet: &[u8], more: bool) {
+    let mut parents = [0u16; 2048];
+    let mut labels = [0u16; 2048];
+    let mut list = [0u16; 2048];
+    let mut work = [0u64; 4096];
+    let mut bytes = [0u8; 260];
+    match packets::read_document(&LINE, &mut parents, &mut labels) {
+        Counted::Refused(r) => say_refused(r),
+        Counted::Count(_) => {
+            let read = packets::read_pattern(packet);
+            let p = read.pattern;
+            match answers::answers(p, &parents[..7], &labels[..7], &mut list, &mut work) {
+                Counted::Refused(r) => say_refused(r),
+                Counted::Count(c) => {
+                    io::print_decimal(1, c as u64);
+                    say(b":");
+                    say_list(&list, c);
+                    if more {
+                        say(b"working:");
+                        say_work(&work, 14);
+                        match packets::write_pattern(p, &mut bytes) {
+                            Counted::Refused(r) => say_refused(r),
+                            Counted::Count(w) => {
+                                say(b"packet:");
+                                say_bytes(&bytes, w);
+                            }
+                        }
+                    }
+                }
+            }
+        }
+    }
+}
+
+// A count, or the refusal.
+fn say_counted(r: Counted) {
+    match r {
+        Counted::Refused(k) => say_refused(k),
+        Counted::Count(c) => {
+            io::print_decimal(1, c as u64);
+            say(b"\n");
+        }
+    }
+}
+
+// Parents of a document in which every node hangs on the one before it.
+fn chain(parents: &mut [u16]) {
+    let mut p: u16 = 65535;
+    let mut i = 0;
+    while i < parents.len() {
+        parents[i] = p;
+        p = (i % 65536) as u16;
+        i += 1;
+    }
+}
+
+// Labels that are all 1.
+fn ones(labels: &mut [u16]) {
+    let mut i = 0;
+    while i < labels.len() {
+        labels[i] = 1;
+        i += 1;
+    }
+}
+
+// Four bytes at a place of a packet, where there is room for them.
+fn put_node(packet: &mut [u8], at: usize, p: u16) {
+    if at < packet.len() {
+        if 3 < packet.len() - at {
+            packet[at] = (p / 256) as u8;
+            packet[at + 1] = (p % 256) as u8;
+            packet[at + 2] = 0;
+            packet[at + 3] = 1;
+        }
+    }
+}
+
+// The header of a packet of n nodes.
+fn put_header(packet: &mut [u8], n: usize)
+    requires { ⌜ (3 ≤ length (now packet)) × (n ≤ 4096) ⌝ }
+{
+    packet[0] = 1;
+    packet[1] = (4 * n / 256 % 256) as u8;
+    packet[2] = (4 * n % 256) as u8;
+}
+
+// The nodes of such a document in a packet, n of them.
+fn put_chain(packet: &mut [u8], n: usize)
+    requires { ⌜ n ≤ 4096 ⌝ }
+{
+    let mut p: u16 = 65535;
+    let mut i = 0;
+    while i < n {
+        put_node(packet, 3 + 4 * i, p);
+        p = (i % 65536) as u16;
+        i += 1;
+    }
+}
+
+// Documents of n nodes, handed over as lists and as a packet, n being 2,048 or 2,049.
+fn sizes(n: usize)
+    requires { ⌜ n ≤ 2049 ⌝ }
+{
+    let mut parents = [0u16; 2049];
+    let mut labels = [0u16; 2049];
+    let mut list = [0u16; 2049];
+    let mut work = [0u64; 4098];
+    let mut packet = [0u8; 8199];
+    let every = packets::read_pattern(b"\x01\x00\x05\x00\xFF\x01\x00\x01");
+    let p = every.pattern;
+    chain(&mut parents);
+    ones(&mut labels);
+    say(b"12 lists ");
+    say_counted(answers::answers(p, &parents[..n], &labels[..n], &mut list, &mut work));
+    put_header(&mut packet, n);
+    put_chain(&mut packet, n);
+    say(b"12 packet ");
+    say_counted(packets::read_document(&packet[..3 + 4 * n], &mut parents, &mut labels));
+}
+
+fn main() {
+    say(b"1, 2 //strip//frame ");
+    run(b"\x01\x00\x09\x01\xFF\x01\x00\x02\x00\x01\x00\x03", true);
+    say(b"3 //strip//frame[pose] ");
+    run(
+        b"\x01\x00\x0D\x01\xFF\x01\x00\x02\x00\x01\x00\x03\x01\x00\x00\x04",
+        false,
+    );
+    say(b"4 //strip[control]//frame ");
+    run(
+        b"\x01\x00\x0D\x02\xFF\x01\x00\x02\x00\x00\x00\x05\x00\x01\x00\x03",
+        false,
+    );
+    say(b"5 /strip ");
+    run(b"\x01\x00\x05\x00\xFF\x00\x00\x02", false);
+    say(b"5 //strip//strip ");
+    run(b"\x01\x00\x09\x01\xFF\x01\x00\x02\x00\x01\x00\x02", false);
+    sizes(2048);
+    sizes(2049);
+}
