@@ -42,10 +42,10 @@ unfoldable pub leastMapping : Shape → Shape → ℕ → ℕ
 leastMapping B A = best (B .tree) (mapProbe B A)
 
 module _ (B A : Shape) (vb : ValidShape B) (va : ValidShape A) where
-  maps-fit : (m : ℕ → ℕ) → Maps B A m → Fit (mapTask B A) m
+  pub maps-fit : (m : ℕ → ℕ) → Maps B A m → Fit (mapTask B A) m
   maps-fit m h = record { ok = λ t l. (h .sends .takes t l, λ e. ap m e ∙ h .output); edge = h .sends .edge }
 
-  fit-maps : (m : ℕ → ℕ) → Fit (mapTask B A) m → BeginsIn B A (m 0) → Maps B A m
+  pub fit-maps : (m : ℕ → ℕ) → Fit (mapTask B A) m → BeginsIn B A (m 0) → Maps B A m
   fit-maps m f s = record { sends = record { takes = λ t l. f .ok t l .0; edge = f .edge }; first = s; output = f .ok (B .output) (vb .output) .1 refl }
 
   probes : Probes (mapProbe B A) (mapTask B A) (BeginsIn B A)

@@ -9,3 +9,9 @@ pub mod FreshLabel
 pub mod Contained
 pub mod Deciding
 pub mod Unique
+pub mod Masks
+pub mod StepFits
+pub mod Lifted
+pub mod Images
+pub mod Greedily
+pub mod Verdicts

@@ -3,3 +3,4 @@ pub mod Mapping
 pub mod Witness
 pub mod Containment
 pub mod Verdict
+pub mod Feasible

@@ -1,5 +1,17 @@
 // Containment of one pattern in another (docs/RULES.md, "Containment").
+ghost use Prim.Native.Nat.{ℕ, _+_, _≤_, _<_};
+ghost use mathlib.Core.Path.{_≡_};
+ghost use Rattle.tables.specs.Pattern.{shapeOf, ValidPattern};
+ghost use Rattle.containment.specs.Containment.{mappingArray};
+ghost use Rattle.containment.specs.Verdict.{Decides};
+ghost use Rattle.containment.specs.Feasible.{FreshOr0};
+
+mod choosing;
+mod fitting;
+
+use tables::Checked;
 use tables::NodeNo;
+use tables::Pattern;
 use tables::Refusal;
 use tables::StepNo;
 
@@ -27,4 +39,78 @@ pub enum Verdict {
 pub struct VerdictAnswer {
     pub answer: Verdict,
     pub mapping: [StepNo; 64],
+}
+
+// The smallest label from 1 up that stands at no step of a or b; 0 where each of them stands at one.
+fn fresh(a: Pattern, b: Pattern) -> u16
+    requires { ⌜ (a .count ≤ 64) × (b .count ≤ 64) ⌝ }
+    ensures { λ r. ⌜ FreshOr0 (shapeOf a) (shapeOf b) r ⌝ }
+{
+    let n = a.count;
+    let m = b.count;
+    let mut l: u16 = 0;
+    let found = 'labels: loop {
+        if l == 65535 {
+            break 0;
+        }
+        l += 1;
+        let mut s = 0;
+        while s < n {
+            if a.label[s] == l {
+                continue 'labels;
+            }
+            s += 1;
+        }
+        let mut t = 0;
+        while t < m {
+            if b.label[t] == l {
+                continue 'labels;
+            }
+            t += 1;
+        }
+        break l;
+    };
+    found
+}
+
+// The verdict with no mapping.
+fn unmapped(answer: Verdict) -> VerdictAnswer
+    ensures { λ r. ⌜ (r .answer ≡ answer) × (r .mapping ≡ mappingArray (λ t. 0) 0) ⌝ }
+{
+    VerdictAnswer {
+        answer: answer,
+        mapping: [StepNo(0); 64],
+    }
+}
+
+// The verdict on two patterns that obey the rules: contained exactly where b maps into a.
+fn compare(a: Pattern, b: Pattern) -> VerdictAnswer
+    requires { ⌜ ValidPattern a × ValidPattern b ⌝ }
+    ensures { λ r. ⌜ Decides a b r ⌝ }
+{
+    let mut fit = [0u64; 64];
+    fitting::lift(a, b, &mut fit);
+    let first = choosing::first_image(a, b.axis[0], &fit);
+    if first == 64 {
+        return unmapped(Verdict::Apart);
+    }
+    let mapping = choosing::choose(a, b, &fit, first);
+    VerdictAnswer {
+        answer: Verdict::Contained,
+        mapping: mapping,
+    }
+}
+
+// Is a contained in b: is each answer of a, on every document, an answer of b? Contained, with the smallest mapping of b into a; or apart, where b does not
+// map into a. Refused by BadPattern if a breaks the rules, then if b does.
+pub fn decide(a: Pattern, b: Pattern) -> VerdictAnswer
+    ensures { λ r. ⌜ Decides a b r ⌝ }
+{
+    if let Checked::Refused(r) = tables::check_pattern(a) {
+        return unmapped(Verdict::Refused(r));
+    }
+    if let Checked::Refused(r) = tables::check_pattern(b) {
+        return unmapped(Verdict::Refused(r));
+    }
+    compare(a, b)
 }

@@ -107,3 +107,18 @@ from-here l w = ⊎-elim (λ e. omega arith) below-here w
 
 pub from-root : {T : Tree} → Ordered T → (u : ℕ) → u < T .size → From T 0 u
 from-root v u l = ⊎-elim (λ e. inl (sym e)) (λ p. inr (below-root v u p l)) (eq-zero-or-pos u)
+
+-- what is below a row is a child of it, or below one, and the other way round
+pub below-top : {T : Tree} {a i : ℕ} → Below T a i → (c : ℕ) × Child T a c × From T c i
+below-top {T} {a} {i} (child c) = (i, c, inl refl)
+below-top {T} {a} {i} (under {m = m} c b) =
+    let r = below-top b in
+    (r .0, r .1, inr (⊎-elim (λ e. child (record { late = c .late; here = c .here; up = c .up ∙ sym e })) (λ d. under c d) (r .2)))
+
+pub top-below : {T : Tree} {a c i : ℕ} → Child T a c → From T c i → Below T a i
+top-below {T} {a} {c} {i} h (inl e) = subst (Below T a) e (child h)
+top-below h (inr b) = join h b
+  where
+    join : {T : Tree} {a c i : ℕ} → Child T a c → Below T c i → Below T a i
+    join h (child d) = under d (child h)
+    join h (under d b) = under d (join h b)

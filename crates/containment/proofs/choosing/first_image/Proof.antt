@@ -1,0 +1,78 @@
+-- `containment::choosing::first_image` meets its contract: none of the steps before s is right. Assumes nothing.
+use Prim.Native.Nat.{ℕ, _-_, _≤_, _<_}
+use mathlib.Core.Path.{_≡_, refl}
+use native.Mathlib.Omega.{arith}
+use borrow.Author.Count.{below-more}
+use lib.ListN.{getD}
+use Rattle.tables.specs.Bits.{bit}
+use Rattle.containment.specs.Feasible.{nothing}
+use Rattle.containment.proofs.Images.{pick-here}
+use Rattle.containment.proofs.choosing.first_image.Statement.{statement}
+use Rattle.containment.proofs.choosing.first_image.Tie as tie
+
+abbrev Inv-loop : tie.InvT-loop
+Inv-loop axis fit n s₀ s = (s ≤ n) × ((j : ℕ) → j < s → bit (getD fit j 0) 0 ≡ 1 → ⊥)
+
+abbrev μ-loop : tie.MeasureT-loop
+μ-loop axis fit n s₀ s = n - s
+
+first-steps-requires : tie.Need-first-steps-requires Inv-loop μ-loop
+first-steps-requires c κs = c .pre
+
+loop-holds : tie.Need-loop-holds Inv-loop μ-loop
+loop-holds c = (omega arith, λ j l. absurd (omega arith))
+
+-- the step looked at is one of a's
+small : (c : tie.In-loop Inv-loop μ-loop) → c .before .loop .s < 64
+small c = omega (arith, c .before .before .first-steps .ensures (c .before .loop .s) .0 (c .loop-test .taken) .0, c .before .before .before .pre .few)
+
+mul-has-bit : tie.Need-mul-has-bit Inv-loop μ-loop
+mul-has-bit c = record { fits = omega (arith, small c) }
+
+element-copy-out-has-bit : tie.Need-element-copy-out-has-bit Inv-loop μ-loop
+element-copy-out-has-bit c = small c
+
+has-bit-requires : tie.Need-has-bit-requires Inv-loop μ-loop
+has-bit-requires c κs = omega arith
+
+returns : tie.Need-returns Inv-loop μ-loop
+returns c =
+    let m = c .before .before .before .before in
+    let h = c .before .has-bit in
+    pick-here (m .loop .s) (small (c .before .before .before))
+    (m .before .first-steps .ensures (m .loop .s) .0 (c .before .before .before .loop-test .taken), h .ensures .0 (rw (c .if1 .taken) tt))
+    (λ j l x. m .loop .inv .1 j l (x .1))
+
+add-s : tie.Need-add-s Inv-loop μ-loop
+add-s c = omega arith
+
+loop-less : tie.Need-loop-less Inv-loop μ-loop
+loop-less c = omega arith
+
+loop-again : tie.Need-loop-again Inv-loop μ-loop
+loop-again c =
+    let m = c .before .before .before .before in
+    let h = c .before .has-bit in
+    (omega arith, below-more _ _ (m .loop .inv .1) (λ e. rw (c .if1 .left) at (h .ensures .1 e)))
+
+returns-2 : tie.Need-returns-2 Inv-loop μ-loop
+returns-2 c =
+    let m = c .before in
+    nothing refl (λ j x. m .loop .inv .1 j (omega (arith, m .before .first-steps .ensures j .1 (x .0))) (x .1))
+
+pub first-image-spec : {M : Type 1} → statement M
+first-image-spec =
+    tie.close
+    (tie.spec
+    Inv-loop
+    μ-loop
+    first-steps-requires
+    loop-holds
+    mul-has-bit
+    element-copy-out-has-bit
+    has-bit-requires
+    returns
+    add-s
+    loop-less
+    loop-again
+    returns-2)

@@ -1,0 +1,59 @@
+-- `containment::compare` meets its contract: the first step picked tells whether there is a mapping. Assumes nothing.
+use Rattle.tables.specs.Pattern.{shapeOf}
+use Rattle.containment.specs.Mapping.{BeginsIn}
+use Rattle.containment.specs.Feasible.{FitsIn, Picks}
+use Rattle.containment.proofs.Images.{pick-below}
+use Rattle.containment.proofs.Verdicts.{first-picked, not-contained, within-chosen}
+use borrow.Author.Needs.{needs}
+use Rattle.containment.proofs.compare.Statement.{statement}
+use Rattle.containment.proofs.compare.Tie as tie
+
+lift-requires : tie.Need-lift-requires
+lift-requires c κs = search needs
+
+element-copy-out-first-image : tie.Need-element-copy-out-first-image
+element-copy-out-first-image c = search needs
+
+first-image-requires : tie.Need-first-image-requires
+first-image-requires c κs = search needs
+
+unmapped-requires : tie.Need-unmapped-requires
+unmapped-requires c κs = search needs
+
+-- the step picked is the smallest that may take step 0
+picks : (c : tie.After-first-image)
+    → let s = c .before .before .before .before .before in
+    Picks (λ j. BeginsIn (shapeOf (s .args .t2)) (shapeOf (s .args .a)) j × FitsIn (shapeOf (s .args .t2)) (shapeOf (s .args .a)) j 0) (c .first-image .result)
+picks c =
+    let s = c .before .before .before .before .before in
+    first-picked (shapeOf (s .args .a)) (shapeOf (s .args .t2)) (s .pre .0) (s .pre .1) (c .before .before .before .lift .last .1 .1 .0) _ (c .before .before .before .lift .ensures) (c .first-image .ensures)
+
+returns : tie.Need-returns
+returns c =
+    let g = c .before .before in
+    let s = g .before .before .before .before .before in
+    let u = c .unmapped .ensures in
+    rw (u .0) ((s .pre .0, (s .pre .1, tt)), not-contained _ _ (s .pre .0) (s .pre .1) _ (c .before .if1 .taken) (picks g), u .1)
+
+choose-requires : tie.Need-choose-requires
+choose-requires c κs =
+    let g = c .before .before in
+    let s = g .before .before .before .before .before in
+    (s .pre, (g .before .before .before .lift .ensures, (picks g, pick-below (picks g) (c .before .if1 .left))))
+
+returns-2 : tie.Need-returns-2
+returns-2 c =
+    let s = c .before .before .before .before .before .before .before .before in
+    ((s .pre .0, (s .pre .1, tt)), within-chosen _ _ (s .pre .0) (s .pre .1) _ (c .choose .ensures))
+
+pub compare-spec : {M : Type 1} → statement M
+compare-spec =
+    tie.close
+    (tie.spec
+    lift-requires
+    element-copy-out-first-image
+    first-image-requires
+    unmapped-requires
+    returns
+    choose-requires
+    returns-2)

@@ -1,0 +1,19 @@
+-- `containment::fitting::has_bit` meets its contract: the flag of an equality tells it. Assumes nothing.
+use Prim.Native.Nat.{_/_, _%_, _^_}
+use Rattle.tables.specs.Bits.{bit}
+use Rattle.tables.proofs.Tests.{tells-eq}
+use borrow.Author.Needs.{needs}
+use Rattle.containment.proofs.fitting.has_bit.Statement.{statement}
+use Rattle.containment.proofs.fitting.has_bit.Tie as tie
+
+shr-result : tie.Need-shr-result
+shr-result c = search needs
+
+returns : tie.Need-returns
+unfolding bit
+returns c =
+    let t = tells-eq (c .args .x / 2 ^ c .args .t % 2) 1 in
+    (t .says, t .test)
+
+pub has-bit-spec : {M : Type 1} → statement M
+has-bit-spec = tie.close (tie.spec shr-result returns)

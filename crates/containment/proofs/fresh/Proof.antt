@@ -1,0 +1,142 @@
+-- `containment::fresh` meets its contract. The labels up to l all stand; in the inner loops the steps looked at do not have the label l. Assumes nothing.
+use Prim.Native.Nat.{ℕ, _+_, _-_, _<_, _≤_}
+use mathlib.Core.Path.{_≡_, sym, _∙_}
+use mathlib.Core.Logic.{_⊎_, inl, inr}
+use lib.ListN.{getD}
+use native.Mathlib.Omega.{arith}
+use native.Mathlib.Numerals.{add-one}
+use borrow.Author.Count.{below-more}
+use Rattle.tables.specs.Pattern.{shapeOf}
+use Rattle.containment.specs.Witness.{Stands}
+use Rattle.containment.proofs.fresh.Statement.{statement}
+use Rattle.containment.proofs.fresh.Tie as tie
+
+abbrev Inv-loop : tie.InvT-loop
+Inv-loop a b n m l s₀ s = (s ≤ n) × ((k : ℕ) → k < s → getD (a .label) k 0 ≡ l → ⊥)
+
+abbrev μ-loop : tie.MeasureT-loop
+μ-loop a b n m l s₀ s = n - s
+
+abbrev Inv-loop2 : tie.InvT-loop2
+Inv-loop2 a b n m l s t₀ t = (t ≤ m) × ((k : ℕ) → k < t → getD (b .label) k 0 ≡ l → ⊥)
+
+abbrev μ-loop2 : tie.MeasureT-loop2
+μ-loop2 a b n m l s t₀ t = m - t
+
+abbrev Inv-labels : tie.InvT-labels
+Inv-labels a b n m l₀ l = (l ≤ 65535) × ((k : ℕ) → k < l + 1 → 1 ≤ k → Stands (shapeOf a) k ⊎ Stands (shapeOf b) k)
+
+abbrev μ-labels : tie.MeasureT-labels
+μ-labels a b n m l₀ l = 65535 - l
+
+labels-holds : tie.Need-labels-holds Inv-loop μ-loop Inv-loop2 μ-loop2 Inv-labels μ-labels
+labels-holds c = (omega arith, λ k g h. absurd (omega arith))
+
+add-l : tie.Need-add-l Inv-loop μ-loop Inv-loop2 μ-loop2 Inv-labels μ-labels
+add-l c = omega arith
+
+loop-holds : tie.Need-loop-holds Inv-loop μ-loop Inv-loop2 μ-loop2 Inv-labels μ-labels
+loop-holds c = (omega arith, λ k g h. omega arith)
+
+mul-if2 : tie.Need-mul-if2 Inv-loop μ-loop Inv-loop2 μ-loop2 Inv-labels μ-labels
+mul-if2 c = omega arith
+
+element-copy-out-if2 :
+    tie.Need-element-copy-out-if2 Inv-loop μ-loop Inv-loop2 μ-loop2 Inv-labels μ-labels
+element-copy-out-if2 c = omega arith
+
+labels-less : tie.Need-labels-less Inv-loop μ-loop Inv-loop2 μ-loop2 Inv-labels μ-labels
+labels-less c = omega arith
+
+labels-again : tie.Need-labels-again Inv-loop μ-loop Inv-loop2 μ-loop2 Inv-labels μ-labels
+labels-again c =
+    let l = c .before .before .before .before .before .labels in (
+      omega arith,
+      below-more (λ (k : ℕ). 1 ≤ k → Stands _ k ⊎ Stands _ k) (l .l + 1) (l .inv .1)
+          (λ z. inl (record { step = c .before .before .before .loop .s; here = omega arith; is = c .if2 .taken })),
+    )
+
+add-s : tie.Need-add-s Inv-loop μ-loop Inv-loop2 μ-loop2 Inv-labels μ-labels
+add-s c = omega arith
+
+loop-less : tie.Need-loop-less Inv-loop μ-loop Inv-loop2 μ-loop2 Inv-labels μ-labels
+loop-less c = omega arith
+
+loop-again : tie.Need-loop-again Inv-loop μ-loop Inv-loop2 μ-loop2 Inv-labels μ-labels
+loop-again c = (omega arith, below-more _ _ (c .before .before .before .loop .inv .1) (c .if2 .left))
+
+loop2-holds : tie.Need-loop2-holds Inv-loop μ-loop Inv-loop2 μ-loop2 Inv-labels μ-labels
+loop2-holds c = (omega arith, λ k g h. omega arith)
+
+mul-if3 : tie.Need-mul-if3 Inv-loop μ-loop Inv-loop2 μ-loop2 Inv-labels μ-labels
+mul-if3 c = omega arith
+
+element-copy-out-if3 :
+    tie.Need-element-copy-out-if3 Inv-loop μ-loop Inv-loop2 μ-loop2 Inv-labels μ-labels
+element-copy-out-if3 c = omega arith
+
+labels-less-2 : tie.Need-labels-less-2 Inv-loop μ-loop Inv-loop2 μ-loop2 Inv-labels μ-labels
+labels-less-2 c = omega arith
+
+labels-again-2 : tie.Need-labels-again-2 Inv-loop μ-loop Inv-loop2 μ-loop2 Inv-labels μ-labels
+labels-again-2 c =
+    let l = c .before .before .before .before .before .before .before .labels in (
+      omega arith,
+      below-more (λ (k : ℕ). 1 ≤ k → Stands _ k ⊎ Stands _ k) (l .l + 1) (l .inv .1)
+          (λ z. inr (record { step = c .before .before .before .loop2 .t; here = omega arith; is = c .if3 .taken })),
+    )
+
+add-t : tie.Need-add-t Inv-loop μ-loop Inv-loop2 μ-loop2 Inv-labels μ-labels
+add-t c = omega arith
+
+loop2-less : tie.Need-loop2-less Inv-loop μ-loop Inv-loop2 μ-loop2 Inv-labels μ-labels
+loop2-less c = omega arith
+
+loop2-again : tie.Need-loop2-again Inv-loop μ-loop Inv-loop2 μ-loop2 Inv-labels μ-labels
+loop2-again c = (omega arith, below-more _ _ (c .before .before .before .loop2 .inv .1) (c .if3 .left))
+
+returns : tie.Need-returns Inv-loop μ-loop Inv-loop2 μ-loop2 Inv-labels μ-labels
+returns c = λ k g h. c .before .labels .inv .1 k (omega arith) g
+
+returns-2 : tie.Need-returns-2 Inv-loop μ-loop Inv-loop2 μ-loop2 Inv-labels μ-labels
+returns-2 c =
+    let l = c .before .before .before .before .before .labels in
+    let e = add-one (l .l) in
+    rw e
+    record {
+      label = record { least = omega arith; most = omega arith };
+      not-first = λ f. c .before .before .before .loop .inv .1 (f .step) (omega (arith, f .here)) (f .is ∙ sym e);
+      not-second = λ f. c .before .loop2 .inv .1 (f .step) (omega (arith, f .here)) (f .is ∙ sym e);
+      least = λ k g h. l .inv .1 k (omega arith) g;
+    }
+
+pub fresh-spec : {M : Type 1} → statement M
+fresh-spec =
+    tie.close
+    (tie.spec
+    Inv-loop
+    μ-loop
+    Inv-loop2
+    μ-loop2
+    Inv-labels
+    μ-labels
+    labels-holds
+    add-l
+    loop-holds
+    mul-if2
+    element-copy-out-if2
+    labels-less
+    labels-again
+    add-s
+    loop-less
+    loop-again
+    loop2-holds
+    mul-if3
+    element-copy-out-if3
+    labels-less-2
+    labels-again-2
+    add-t
+    loop2-less
+    loop2-again
+    returns
+    returns-2)

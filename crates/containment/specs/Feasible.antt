@@ -1,0 +1,69 @@
+-- What the private functions of containment answer. Only private functions cite this file: a reader of the public contracts need not read it.
+--   FreshOr0   the fresh label of two patterns, 0 where none is left
+--   maskFor    a choice of two numbers by an axis
+--   FitsBy     a step of B that fits at a step of A, by what fits below that
+--   FitsIn     a step of B that fits at a step of A
+--   FitTable   a table of the steps of B that fit at each step of A
+--   Picks      the smallest number of a kind
+--   Chosen     the smallest mapping as an array
+-- Assumes nothing.
+use Prim.Native.Nat.{ℕ, zero, suc, _≤_, _<_}
+use mathlib.Core.Path.{_≡_}
+use mathlib.Core.Logic.{_⊎_}
+use mathlib.Core.Bool.{Bool}
+use mathlib.Core.List.{List}
+use lib.Dec.{T}
+use lib.ListN.{getD}
+use Rattle.tables.specs.Bits.{bit, Marks}
+use Rattle.tables.specs.Tree.{Child, From}
+use Rattle.tables.specs.Pattern.{Shape, rowsOf}
+use Rattle.placing.specs.Placement.{SendsFrom}
+use Rattle.tables.specs.declared.StepNo.{StepNo}
+use Rattle.containment.specs.Mapping.{LeastMap}
+use Rattle.containment.specs.Containment.{mappingArray}
+use Rattle.containment.specs.Witness.{Stands, Fresh}
+
+-- 0 says that every label stands at a step of A or of B
+abbrev pub FreshOr0 : Shape → Shape → ℕ → Type 0
+FreshOr0 A B zero = (k : ℕ) → 1 ≤ k → k < 65536 → Stands A k ⊎ Stands B k
+FreshOr0 A B (suc l) = Fresh A B (suc l)
+
+-- c for axis child, d for axis descendant
+abbrev pub maskFor : ℕ → ℕ → ℕ → ℕ
+maskFor zero c d = c
+maskFor (suc a) c d = d
+
+-- the steps of B with label l
+abbrev pub OfLabel : Shape → ℕ → ℕ → Type 0
+OfLabel B l t = (t < B .tree .size) × (B .label t ≡ l)
+
+-- step t of B has a child step with no place, where c has the steps that have one at a child edge, d those that have one further below or there
+abbrev pub Lacks : Shape → ℕ → ℕ → ℕ → Type 0
+Lacks B c d t = (u : ℕ) × Child (B .tree) t u × (bit (maskFor (B .axis u) c d) u ≡ 1 → ⊥)
+
+-- step t of B fits at a step of label l, the output step only if `last` says so
+abbrev pub FitsBy : Shape → ℕ → Bool → ℕ → ℕ → ℕ → Type 0
+FitsBy B l last c d t =
+    (t < B .tree .size) × (B .label t ≡ l) × (t ≡ B .output → T last) × ((u : ℕ) → Child (B .tree) t u → bit (maskFor (B .axis u) c d) u ≡ 1)
+
+-- step t of B with all steps below it can be sent to steps of A, t to s, and B's output step only to A's
+pub record FitsIn (B A : Shape) (s t : ℕ) : Type 0 where
+  pub here : t < B .tree .size
+  pub by : ℕ → ℕ
+  pub sends : SendsFrom B (rowsOf A) t s by
+  pub output : From (B .tree) t (B .output) → by (B .output) ≡ A .output
+
+-- entry s has the steps of B that fit at step s of A
+abbrev pub FitTable : Shape → Shape → List ℕ → Type 0
+FitTable B A table = (s : ℕ) → s < A .tree .size → Marks (getD table s 0) (FitsIn B A s)
+
+-- r is the smallest number with X, below 64; or 64, where there is none
+pub data Picks (X : ℕ → Type 0) (r : ℕ) : Type 0 where
+  picked : r < 64 → X r → ((j : ℕ) → X j → r ≤ j) → Picks X r
+  nothing : r ≡ 64 → ((j : ℕ) → X j → ⊥) → Picks X r
+
+-- the array holds the smallest mapping of B into A
+pub record Chosen (B A : Shape) (mapping : List StepNo) : Type 0 where
+  pub by : ℕ → ℕ
+  pub least : LeastMap B A by
+  pub array : mapping ≡ mappingArray by (B .tree .size)

@@ -1,0 +1,101 @@
+// The smallest mapping of one pattern, B, into another, A, from the table of the steps of B that fit at each step of A (docs/RULES.md, "Containment").
+ghost use mathlib.Core.Path.{_≡_};
+ghost use mathlib.Core.Logic.{_↔_};
+ghost use Prim.Native.Nat.{ℕ, _+_, _≤_, _<_};
+ghost use lib.Dec.{T};
+ghost use lib.ListN.{length, getD, set, replicate};
+ghost use Rattle.tables.specs.Bits.{bit};
+ghost use Rattle.tables.specs.Pattern.{shapeOf, rowsOf, ValidPattern};
+ghost use Rattle.placing.specs.Placement.{Goes};
+ghost use Rattle.containment.specs.Feasible.{FitsIn, FitTable, Picks, Chosen};
+ghost use Rattle.containment.specs.Mapping.{BeginsIn};
+use crate::fitting;
+use tables::Pattern;
+use tables::StepNo;
+
+// How many of the first steps of a may take step 0 of a pattern, whose axis is `axis`.
+fn first_steps(a: Pattern, axis: u8) -> usize
+    requires { ⌜ ValidPattern a ⌝ }
+    ensures { λ r. ⌜ ((j : ℕ) → (j < r) ↔ ((j < a .count) × (axis ≡ 0 → (j ≡ 0) × (shapeOf a .axis 0 ≡ 0)))) ⌝ }
+{
+    if axis != 0 {
+        return a.count;
+    }
+    if a.axis[0] == 0 {
+        return 1;
+    }
+    0
+}
+
+// The smallest step of a that may take step 0 of a pattern, whose axis is `axis`; 64 where there is none.
+pub(crate) fn first_image(a: Pattern, axis: u8, fit: &[u64; 64]) -> usize
+    requires { ⌜ ValidPattern a ⌝ }
+    ensures { λ r. ⌜ Picks (λ j. ((j < a .count) × (axis ≡ 0 → (j ≡ 0) × (shapeOf a .axis 0 ≡ 0))) × (bit (getD (now (fit .entry)) j 0) 0 ≡ 1)) r ⌝ }
+{
+    let n = first_steps(a, axis);
+    let mut s = 0;
+    while s < n {
+        if fitting::has_bit(fit[s], 0) {
+            return s;
+        }
+        s += 1;
+    }
+    64
+}
+
+// May a step that goes to step s of a, below q, be a step of this axis, where s hangs on p along an edge of axis `own`? And does it fit there?
+fn takes(x: u64, t: usize, axis: u8, q: usize, p: usize, own: u8) -> bool
+    requires { ⌜ t < 64 ⌝ }
+    ensures { λ r. ⌜ T r ↔ ((axis ≡ 0 → (p ≡ q) × (own ≡ 0)) × (bit x t ≡ 1)) ⌝ }
+{
+    if axis == 0 {
+        if p != q {
+            return false;
+        }
+        if own != 0 {
+            return false;
+        }
+    }
+    fitting::has_bit(x, t)
+}
+
+// The smallest step of a that may take step t, of this axis, where its parent step is at q; 64 where there is none. What is below q stands in one run after q.
+fn next_image(a: Pattern, fit: &[u64; 64], t: usize, axis: u8, q: usize) -> usize
+    requires { ⌜ ValidPattern a × (t < 64) × (q < a .count) ⌝ }
+    ensures { λ r. ⌜ Picks (λ j. Goes (rowsOf (shapeOf a)) axis q j × (bit (getD (now (fit .entry)) j 0) t ≡ 1)) r ⌝ }
+{
+    let n = a.count;
+    let mut s = q + 1;
+    while s < n {
+        let p = a.parent[s] as usize;
+        if p < q {
+            return 64;
+        }
+        if takes(fit[s], t, axis, q, p, a.axis[s]) {
+            return s;
+        }
+        s += 1;
+    }
+    64
+}
+
+// The smallest mapping of b into a, where step 0 goes to `first`.
+pub(crate) fn choose(a: Pattern, b: Pattern, fit: &[u64; 64], first: usize) -> [StepNo; 64]
+    requires { ⌜ ValidPattern a × ValidPattern b ⌝ }
+    requires { ⌜ FitTable (shapeOf b) (shapeOf a) (now fit) ⌝ }
+    requires { ⌜ Picks (λ j. BeginsIn (shapeOf b) (shapeOf a) j × FitsIn (shapeOf b) (shapeOf a) j 0) first × (first < 64) ⌝ }
+    ensures { λ r. ⌜ Chosen (shapeOf b) (shapeOf a) r ⌝ }
+{
+    let mut mapping = [StepNo(0); 64];
+    mapping[0] = StepNo(first as u8);
+    let n = b.count;
+    let mut t = 1;
+    while t < n {
+        let o = b.parent[t] as usize;
+        let q = mapping[o].0 as usize;
+        let s = next_image(a, fit, t, b.axis[t], q);
+        mapping[t] = StepNo(s as u8);
+        t += 1;
+    }
+    mapping
+}
