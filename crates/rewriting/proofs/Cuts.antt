@@ -12,7 +12,7 @@ use Rattle.tables.proofs.Climb.{isFrom, tells-from}
 use Rattle.tables.proofs.Depth.{run}
 use Rattle.tables.proofs.Rules.{Agree, shape-ordered}
 use Rattle.tables.proofs.Tests.{Tells}
-use Rattle.tables.proofs.Trees.{Ordered, below-lt, below-parent, below-up, from-child, from-below, from-here, from-le}
+use Rattle.tables.proofs.Trees.{Ordered, below-lt, below-up, from-child, from-below, from-here, from-le}
 use Rattle.rewriting.specs.Candidate.{Cut}
 
 -- how many of the numbers below n pass a test

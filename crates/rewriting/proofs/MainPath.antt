@@ -1,15 +1,14 @@
 -- The main path has a step for each depth down to the output's, and every step from which the output can be reached is one of them. Assumes nothing.
 use Prim.Native.Nat.{ℕ, zero, suc, _+_, _-_, _≤_, _<_}
 use mathlib.Core.Path.{_≡_, refl, sym, ap, _∙_, subst}
-use mathlib.Core.Logic.{_⊎_, inl, inr, ⊎-elim}
+use mathlib.Core.Logic.{inl, inr}
 use mathlib.Core.List.{List, [], _∷_, _++_}
 use native.Mathlib.Omega.{arith}
-use native.Mathlib.Nat.{eq-or-lt-of-le}
 use lib.ListN.{length, getD, length-append, List·getD-append}
 use lib.Seq.{getD-append-add}
-use Rattle.tables.specs.Tree.{Tree, Child, Below, child, under, From}
+use Rattle.tables.specs.Tree.{Tree, Child, From}
 use Rattle.tables.proofs.Choice.{below-or-at}
-use Rattle.tables.proofs.Trees.{Ordered, parent-lt, from-child, from-trans}
+use Rattle.tables.proofs.Trees.{Ordered, parent-lt, from-child}
 use Rattle.tables.proofs.Depth.{depth, depth-zero, depth-child, depth-le, depth-unique}
 use Rattle.tables.specs.Pattern.{Shape, ValidShape}
 use Rattle.tables.proofs.Rules.{shape-ordered}
