@@ -1,12 +1,18 @@
 // Rewriting a query by a view (docs/RULES.md, "Rewriting").
 ghost use Prim.Native.Nat.{ℕ, _+_, _-_, _<_};
 ghost use mathlib.Core.Path.{_≡_};
+ghost use mathlib.Core.Logic.{_↔_};
+ghost use lib.Dec.{T};
 ghost use lib.ListN.{length, getD};
 ghost use Rattle.tables.specs.Tree.{From};
-ghost use Rattle.tables.specs.Pattern.{Shape, shapeOf, patternOf, ValidPattern};
-ghost use lib.Dec.{T};
+ghost use Rattle.tables.specs.Pattern.{Shape, shapeOf, patternOf, zeroPattern, ValidPattern};
 ghost use Rattle.tables.specs.declared.Pattern.{Pattern};
+ghost use Rattle.containment.specs.Mapping.{Contained, Equal};
+ghost use Rattle.joining.specs.Join.{joinOf, Joinable};
 ghost use Rattle.rewriting.specs.Candidate.{mainPath, Cut, Candidate};
+ghost use Rattle.rewriting.specs.Rewriting.{Rewrites};
+use containment::Verdict;
+use tables::Checked;
 use tables::Pattern;
 use tables::Refusal;
 use tables::StepNo;
@@ -128,5 +134,74 @@ fn candidate(q: Pattern, v: Pattern) -> Found
     Found {
         there: true,
         pattern: cut(q, c),
+    }
+}
+
+// Is one pattern contained in another?
+fn within(a: Pattern, b: Pattern) -> bool
+    requires { ⌜ ValidPattern a ⌝ }
+    requires { ⌜ ValidPattern b ⌝ }
+    ensures { λ r. ⌜ T r ↔ Contained (shapeOf a) (shapeOf b) ⌝ }
+{
+    let verdict = containment::decide(a, b).answer;
+    match verdict {
+        Verdict::Contained => true,
+        Verdict::Apart => false,
+        Verdict::Refused(_) => false,
+    }
+}
+
+// Is the join of a view and a compensation, which can be joined, equal to a query?
+fn serves(q: Pattern, v: Pattern, e: Pattern) -> bool
+    requires { ⌜ ValidPattern q ⌝ }
+    requires { ⌜ Joinable v e ⌝ }
+    ensures { λ r. ⌜ T r ↔ Equal (shapeOf (joinOf v e)) (shapeOf q) ⌝ }
+{
+    let j = joining::join(v, e).pattern;
+    if !within(j, q) {
+        return false;
+    }
+    within(q, j)
+}
+
+// An answer with the zero pattern beside it.
+fn beside(answer: Rewriting) -> RewritingAnswer
+    ensures { λ r. ⌜ (r .answer ≡ answer) × (r .pattern ≡ zeroPattern) ⌝ }
+{
+    RewritingAnswer {
+        answer: answer,
+        pattern: tables::no_pattern(),
+    }
+}
+
+// The compensation that serves a query by a view: the candidate, where there is one and its join with the view is equal to the query. Otherwise none
+// serves, and the pattern is zero. Refused by BadPattern for the query, BadPattern for the view or TooLarge, the first that applies, with the zero
+// pattern too.
+pub fn rewrite(q: Pattern, v: Pattern) -> RewritingAnswer
+    ensures { λ r. ⌜ Rewrites q v r ⌝ }
+{
+    if let Checked::Refused(r) = tables::check_pattern(q) {
+        return beside(Rewriting::Refused(r));
+    }
+    if let Checked::Refused(r) = tables::check_pattern(v) {
+        return beside(Rewriting::Refused(r));
+    }
+    if 32 < q.count {
+        return beside(Rewriting::Refused(Refusal::TooLarge));
+    }
+    if 32 < v.count {
+        return beside(Rewriting::Refused(Refusal::TooLarge));
+    }
+    let found = candidate(q, v);
+    if !found.there {
+        return beside(Rewriting::Nothing);
+    }
+    let e = found.pattern;
+    if !serves(q, v, e) {
+        return beside(Rewriting::Nothing);
+    }
+    RewritingAnswer {
+        answer: Rewriting::Handed,
+        pattern: e,
     }
 }

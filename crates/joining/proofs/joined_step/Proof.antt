@@ -1,11 +1,11 @@
 -- `joining::joined_step` meets its contract: each of the three parts of the join gives its own step. Assumes nothing.
-use Prim.Native.Nat.{ℕ, _+_, _-_, _≤_, _<_}
+use Prim.Native.Nat.{ℕ, _-_, _<_}
 use mathlib.Core.Path.{_≡_, sym, _∙_}
 use mathlib.Core.Logic.{⊎-elim}
 use native.Mathlib.Omega.{arith}
 use lib.ListN.{getD}
 use borrow.Author.Needs.{needs}
-use Rattle.tables.specs.Pattern.{shapeOf, ValidPattern}
+use Rattle.tables.specs.Pattern.{ValidPattern}
 use Rattle.tables.specs.declared.Pattern.{Pattern}
 use Rattle.tables.proofs.Trees.{parent-lt}
 use Rattle.tables.proofs.Rules.{shape-ordered}

@@ -5,7 +5,6 @@ use native.Mathlib.Omega.{arith}
 use lib.ListN.{length, getD}
 use Rattle.tables.specs.Tree.{From}
 use Rattle.tables.specs.Pattern.{shapeOf}
-use Rattle.tables.proofs.Rules.{shape-ordered}
 use Rattle.rewriting.specs.Candidate.{mainPath, cutStep, Cut}
 use Rattle.rewriting.proofs.CutTable.{cut-here}
 use Rattle.rewriting.proofs.MainPath.{main-length, cut-on-path}

@@ -1,5 +1,4 @@
 -- `rewriting::main_length` meets its contract: it counts the steps of a climb. Assumes nothing.
-use mathlib.Core.Path.{_≡_}
 use native.Mathlib.Omega.{arith}
 use borrow.Author.Needs.{needs}
 use Rattle.tables.specs.Pattern.{shapeOf}
