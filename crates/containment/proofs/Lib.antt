@@ -15,3 +15,4 @@ pub mod Lifted
 pub mod Images
 pub mod Greedily
 pub mod Verdicts
+pub mod Writing

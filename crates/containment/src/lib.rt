@@ -8,6 +8,7 @@ ghost use Rattle.containment.specs.Feasible.{FreshOr0};
 
 mod choosing;
 mod fitting;
+mod witness;
 
 use tables::Checked;
 use tables::NodeNo;
