@@ -16,3 +16,4 @@ pub mod Images
 pub mod Greedily
 pub mod Verdicts
 pub mod Writing
+pub mod Answering
