@@ -17,3 +17,4 @@ pub mod Greedily
 pub mod Verdicts
 pub mod Writing
 pub mod Answering
+pub mod Called
