@@ -15,3 +15,6 @@ pub mod Lifted
 pub mod Images
 pub mod Greedily
 pub mod Verdicts
+pub mod Writing
+pub mod Answering
+pub mod Called

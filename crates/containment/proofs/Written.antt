@@ -52,6 +52,13 @@ labels-widths : (A : Shape) (φ : ℕ) → Axes A → Blocks A (labelsFor A φ)
 unfolding Blocks labelsFor
 labels-widths A φ ax s l = by-axis-length (A .axis s) _ _ _ (ax s l)
 
+-- how many entries the first k steps write
+pub parents-length : (A : Shape) → Axes A → (k : ℕ) → k ≤ A .tree .size → length (blocks (parentsFor A) k) ≡ k + descendants A k
+parents-length A ax = widths-length A (parentsFor A) (parents-widths A ax)
+
+pub labels-length : (A : Shape) (φ : ℕ) → Axes A → (k : ℕ) → k ≤ A .tree .size → length (blocks (labelsFor A φ) k) ≡ k + descendants A k
+labels-length A φ ax = widths-length A (labelsFor A φ) (labels-widths A φ ax)
+
 -- the witness has a label for each node, and node 0 has the mark for its parent
 pub witness-equal : (A : Shape) (φ : ℕ) → Axes A → length (witnessOf A φ .labels) ≡ length (witnessOf A φ .parents)
 unfolding witnessOf

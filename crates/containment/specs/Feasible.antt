@@ -6,14 +6,15 @@
 --   FitTable   a table of the steps of B that fit at each step of A
 --   Picks      the smallest number of a kind
 --   Chosen     the smallest mapping as an array
+--   Wrote      the nodes of one step of a witness
 -- Assumes nothing.
-use Prim.Native.Nat.{ℕ, zero, suc, _≤_, _<_}
+use Prim.Native.Nat.{ℕ, zero, suc, _+_, _≤_, _<_}
 use mathlib.Core.Path.{_≡_}
 use mathlib.Core.Logic.{_⊎_}
 use mathlib.Core.Bool.{Bool}
 use mathlib.Core.List.{List}
 use lib.Dec.{T}
-use lib.ListN.{getD}
+use lib.ListN.{getD, set}
 use Rattle.tables.specs.Bits.{bit, Marks}
 use Rattle.tables.specs.Tree.{Child, From}
 use Rattle.tables.specs.Pattern.{Shape, rowsOf}
@@ -67,3 +68,8 @@ pub record Chosen (B A : Shape) (mapping : List StepNo) : Type 0 where
   pub by : ℕ → ℕ
   pub least : LeastMap B A by
   pub array : mapping ≡ mappingArray by (B .tree .size)
+
+-- from place m on, the nodes of a step with this axis, hook and label were put into both lists; the next place is r
+pub record Wrote (axis hook label l m : ℕ) (parents₀ labels₀ : List ℕ) (r : ℕ) (parents labels : List ℕ) : Type 0 where
+  pub one : axis ≡ 0 → (r ≡ m + 1) × (parents ≡ set parents₀ m hook) × (labels ≡ set labels₀ m label)
+  pub two : axis ≡ 1 → (r ≡ m + 2) × (parents ≡ set (set parents₀ m hook) (m + 1) m) × (labels ≡ set (set labels₀ m l) (m + 1) label)

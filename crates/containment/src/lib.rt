@@ -2,12 +2,13 @@
 ghost use Prim.Native.Nat.{ℕ, _+_, _≤_, _<_};
 ghost use mathlib.Core.Path.{_≡_};
 ghost use Rattle.tables.specs.Pattern.{shapeOf, ValidPattern};
-ghost use Rattle.containment.specs.Containment.{mappingArray};
+ghost use Rattle.containment.specs.Containment.{mappingArray, DecidesContainment};
 ghost use Rattle.containment.specs.Verdict.{Decides};
 ghost use Rattle.containment.specs.Feasible.{FreshOr0};
 
 mod choosing;
 mod fitting;
+mod witness;
 
 use tables::Checked;
 use tables::NodeNo;
@@ -113,4 +114,57 @@ pub fn decide(a: Pattern, b: Pattern) -> VerdictAnswer
         return unmapped(Verdict::Refused(r));
     }
     compare(a, b)
+}
+
+// The answer with no mapping.
+fn plain(answer: Containment) -> ContainmentAnswer
+    ensures { λ r. ⌜ (r .answer ≡ answer) × (r .mapping ≡ mappingArray (λ t. 0) 0) ⌝ }
+{
+    ContainmentAnswer {
+        answer: answer,
+        mapping: [StepNo(0); 64],
+    }
+}
+
+// Is a contained in b? Contained, with the smallest mapping of b into a, and both lists as they were. Or apart, with a witness: a document, its parents and
+// labels at the front of the two lists, which keep all entries past its nodes, and a node of it that a answers and b does not. Refused, with both lists as
+// they were, by BadPattern if a breaks the rules, then if b does; by NoLabel if no label is free for the witness; by Room if a list has fewer entries than
+// the witness has nodes, even where the answer would be contained.
+pub fn contains(
+    a: Pattern,
+    b: Pattern,
+    parents: &mut [u16],
+    labels: &mut [u16],
+) -> ContainmentAnswer
+    ensures { λ r. ⌜ DecidesContainment a b (now (parents .entry)) (now (labels .entry)) r (now (parents .exit)) (now (labels .exit)) ⌝ }
+{
+    let v = decide(a, b);
+    let answer = v.answer;
+    if let Verdict::Refused(r) = answer {
+        return plain(Containment::Refused(r));
+    }
+    let l = fresh(a, b);
+    if l == 0 {
+        return plain(Containment::Refused(Refusal::NoLabel));
+    }
+    let m = a.count + witness::descendants_before(a, a.count);
+    if parents.len() < m {
+        return plain(Containment::Refused(Refusal::Room));
+    }
+    if labels.len() < m {
+        return plain(Containment::Refused(Refusal::Room));
+    }
+    if let Verdict::Contained = answer {
+        let mapping = v.mapping;
+        return ContainmentAnswer {
+            answer: Containment::Contained,
+            mapping: mapping,
+        };
+    }
+    let nodes = witness::write_witness(a, l, parents, labels);
+    let node = witness::own_node(a, a.output.0 as usize) as u16;
+    plain(Containment::Apart {
+        nodes: nodes,
+        answer: NodeNo(node),
+    })
 }

@@ -1,0 +1,83 @@
+// The witness document of a pattern, written into two lists (docs/RULES.md, "Containment").
+ghost use mathlib.Core.Path.{_≡_};
+ghost use mathlib.Core.List.{List, _++_};
+ghost use Prim.Native.Nat.{ℕ, _+_, _≤_, _<_};
+ghost use lib.ListN.{length, drop, set};
+ghost use Rattle.tables.specs.Pattern.{shapeOf, ValidPattern};
+ghost use Rattle.containment.specs.Witness.{descendants, ownNode, witnessSize, hook, witnessOf};
+ghost use Rattle.containment.specs.Feasible.{Wrote};
+use tables::Pattern;
+
+// How many of the first k steps have axis descendant.
+pub(crate) fn descendants_before(a: Pattern, k: usize) -> usize
+    requires { ⌜ ValidPattern a × (k ≤ a .count) ⌝ }
+    ensures { λ r. ⌜ r ≡ descendants (shapeOf a) k ⌝ }
+{
+    let mut d = 0;
+    let mut s = 0;
+    while s < k {
+        d += a.axis[s] as usize;
+        s += 1;
+    }
+    d
+}
+
+// The node written for step s.
+pub(crate) fn own_node(a: Pattern, s: usize) -> usize
+    requires { ⌜ ValidPattern a × (s < a .count) ⌝ }
+    ensures { λ r. ⌜ (r ≡ ownNode (shapeOf a) s) × (r < 128) ⌝ }
+{
+    s + descendants_before(a, s + 1)
+}
+
+// The parent of the first node written for step s.
+fn hook_of(a: Pattern, s: usize) -> u16
+    requires { ⌜ ValidPattern a × (s < a .count) ⌝ }
+    ensures { λ r. ⌜ r ≡ hook (shapeOf a) s ⌝ }
+{
+    if s == 0 {
+        return 65535;
+    }
+    own_node(a, a.parent[s] as usize) as u16
+}
+
+// The nodes of one step from place m on: a fresh node of label l first, where the axis is descendant, then the step's own. The place after them.
+fn write_step(
+    axis: u8,
+    hook: u16,
+    label: u16,
+    l: u16,
+    m: usize,
+    parents: &mut [u16],
+    labels: &mut [u16],
+) -> usize
+    requires { ⌜ (m < 65535) × (axis ≤ 1) × (m + axis < length (now parents)) × (m + axis < length (now labels)) ⌝ }
+    ensures { λ r. ⌜ Wrote axis hook label l m (now (parents .entry)) (now (labels .entry)) r (now (parents .exit)) (now (labels .exit)) ⌝ }
+{
+    parents[m] = hook;
+    if axis == 0 {
+        labels[m] = label;
+        return m + 1;
+    }
+    labels[m] = l;
+    parents[m + 1] = m as u16;
+    labels[m + 1] = label;
+    m + 2
+}
+
+// The witness of a with the fresh label l at the front of both lists; its node count.
+pub(crate) fn write_witness(a: Pattern, l: u16, parents: &mut [u16], labels: &mut [u16]) -> usize
+    requires { ⌜ ValidPattern a × (witnessSize (shapeOf a) ≤ length (now parents)) × (witnessSize (shapeOf a) ≤ length (now labels)) ⌝ }
+    ensures count { λ r. ⌜ r ≡ witnessSize (shapeOf a) ⌝ }
+    ensures parents { λ r. ⌜ now (parents .exit) ≡ witnessOf (shapeOf a) l .parents ++ drop r (now (parents .entry)) ⌝ }
+    ensures labels { λ r. ⌜ now (labels .exit) ≡ witnessOf (shapeOf a) l .labels ++ drop r (now (labels .entry)) ⌝ }
+{
+    let n = a.count;
+    let mut m = 0;
+    let mut s = 0;
+    while s < n {
+        m = write_step(a.axis[s], hook_of(a, s), a.label[s], l, m, parents, labels);
+        s += 1;
+    }
+    m
+}
