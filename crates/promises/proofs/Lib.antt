@@ -1,3 +1,4 @@
 -- Theorems over the contracts of several calls. Assumes nothing.
 pub mod Joining
 pub mod Rewriting
+pub mod Containment
