@@ -83,7 +83,7 @@ fn join_table(v: Pattern, e: Pattern) -> Pattern
     p
 }
 
-// The pattern beside a refusal.
+// A refusal, with the zero pattern beside it.
 fn refused(r: Refusal) -> JoinAnswer
     ensures { λ a. ⌜ (a .answer ≡ Refused r) × (a .pattern ≡ zeroPattern) ⌝ }
 {

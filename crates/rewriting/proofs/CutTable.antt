@@ -20,9 +20,11 @@ module _ (q : Pattern) (v : ValidPattern q) (c : ℕ) (w : From (shapeOf q .tree
       cut-low : c ≤ shapeOf q .output
       cut-low = from-le (shape-ordered v) c (shapeOf q .output) w
 
+  -- the shape computed is its cut
   pub cut-is : Cut (shapeOf q) c (cutShape (shapeOf q) c)
   cut-is = cut-shape (shape-ordered v) c cut-here w
 
+  -- and obeys the rules
   pub cut-rules : ValidShape (cutShape (shapeOf q) c)
   cut-rules = cut-valid v cut-is cut-here w
 
@@ -38,6 +40,6 @@ module _ (q : Pattern) (v : ValidPattern q) (c : ℕ) (w : From (shapeOf q .tree
       go (no l) (yes d) = absurd (omega (arith, cut-is .all (c + m) (h .1 m d)))
       go (no l) (no d) = omega arith
 
-  -- a later step of it is the pattern's, less c
+  -- a later step of it is one of the pattern's, and hangs on c or later
   pub cut-late : (t : ℕ) → 0 < t → t < cutShape (shapeOf q) c .tree .size → (c + t < q .count) × (c ≤ shapeOf q .tree .parent (c + t))
   cut-late t p l = (cut-small (shape-ordered v) cut-is t l cut-here, omega (arith, cut-is .parent t p l))

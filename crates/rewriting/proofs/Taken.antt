@@ -15,10 +15,11 @@ pub record Taken (T : Tree) (c u : ℕ) : Type 0 where
   pub here : u ≤ T .size
   pub each : (w : ℕ) → c ≤ w → w < u → From T c w
 
--- and no other row is
+-- the r rows from c on are c or below it, and no other is
 abbrev pub Whole : Tree → ℕ → ℕ → Type 0
 Whole T c r = ((u : ℕ) → From T c u → u < c + r) × ((t : ℕ) → t < r → From T c (c + t))
 
+-- c itself is the first
 pub taken-one : (T : Tree) (c : ℕ) → c < T .size → Taken T c (c + 1)
 taken-one T c l = record { past = omega arith; here = omega arith; each = λ w h k. inl (omega arith) }
 
@@ -31,6 +32,7 @@ module _ {T : Tree} (v : Ordered T) {c u : ℕ} (r : Taken T c u) where
       let w : From T c u = inr (from-child (r .each (T .parent u) h p) d) in
       record { past = omega (arith, r .past); here = omega arith; each = λ x k m. below-or-at {u = x} {k = u} (omega arith) (r .each x k) (λ e. subst (From T c) {x = u} (omega arith) w) }
 
+  -- where no row from u on is, the run is whole
   whole : ((x : ℕ) → From T c x → x < u) → Whole T c (u - c)
   whole f = (λ x w. omega (arith, f x w, r .past), λ t l. r .each (c + t) (omega arith) (omega arith))
 

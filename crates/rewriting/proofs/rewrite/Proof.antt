@@ -32,10 +32,11 @@ query x = subst (ChecksPattern (x .before .before .before .args .q)) (x .enum-to
 view : (x : tie.After-enum-told2) → ValidPattern (x .before .before .before .before .before .before .args .v)
 view x = subst (ChecksPattern (x .before .before .before .before .before .before .args .v)) (x .enum-told2 .given .1) (x .before .before .check-pattern2 .ensures) .0 .0
 
--- the place where both obey the rules, and the entry, seen from where the sizes are right
+-- the place where both obey the rules, seen from where the sizes are right
 abbrev both : tie.Else2 → tie.After-enum-told2
 both x = x .before .before .before .before
 
+-- and the entry
 abbrev entry : tie.Else2 → tie.Start
 entry x = both x .before .before .before .before .before .before
 
@@ -43,10 +44,11 @@ entry x = both x .before .before .before .before .before .before
 passes : (x : tie.Else2) → Passes (rewritingChecks (entry x .args .q) (entry x .args .v))
 passes x = (query (both x .before .before .before), (view (both x), ((omega arith, omega arith), tt)))
 
--- the pattern found is the candidate, and it can be joined to the view
+-- the pattern found is the candidate
 there : (x : tie.Else3) → Candidate (entry (x .before .before .before) .args .q) (entry (x .before .before .before) .args .v) (x .before .before .candidate .result .pattern)
 there x = x .before .before .candidate .ensures .0 (passed (x .before .before .candidate .result .there) (x .if3 .left))
 
+-- and it can be joined to the view
 joinable : (x : tie.Else3) → Joinable (entry (x .before .before .before) .args .v) (x .before .before .candidate .result .pattern)
 joinable x =
     let y = x .before .before .before in
