@@ -1,6 +1,8 @@
 -- What the private functions of containment answer. Only private functions cite this file: a reader of the public contracts need not read it.
 --   FreshOr0   the fresh label of two patterns, 0 where none is left
 --   maskFor    a choice of two numbers by an axis
+--   OfLabel    the steps of a label
+--   Lacks      a step with a child step that has no place
 --   FitsBy     a step of B that fits at a step of A, by what fits below that
 --   FitsIn     a step of B that fits at a step of A
 --   FitTable   a table of the steps of B that fit at each step of A

@@ -1,9 +1,9 @@
 // Which steps of one pattern, B, fit at each step of another, A: the steps of B are bits (docs/RULES.md, "Mappings").
 ghost use mathlib.Core.Path.{_≡_};
 ghost use mathlib.Core.Logic.{_↔_};
-ghost use Prim.Native.Nat.{ℕ, _+_, _≤_, _<_, _^_};
+ghost use Prim.Native.Nat.{_<_, _^_};
 ghost use lib.Dec.{T};
-ghost use lib.ListN.{length, getD, set, replicate};
+ghost use lib.ListN.{getD, set, replicate};
 ghost use lib.Bits.{bitOr};
 ghost use Rattle.tables.specs.Bits.{bit, Marks};
 ghost use Rattle.tables.specs.Pattern.{shapeOf, ValidPattern};

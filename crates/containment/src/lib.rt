@@ -1,5 +1,5 @@
 // Containment of one pattern in another (docs/RULES.md, "Containment").
-ghost use Prim.Native.Nat.{ℕ, _+_, _≤_, _<_};
+ghost use Prim.Native.Nat.{_≤_};
 ghost use mathlib.Core.Path.{_≡_};
 ghost use Rattle.tables.specs.Pattern.{shapeOf, ValidPattern};
 ghost use Rattle.containment.specs.Containment.{mappingArray, DecidesContainment};

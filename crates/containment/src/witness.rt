@@ -1,8 +1,8 @@
 // The witness document of a pattern, written into two lists (docs/RULES.md, "Containment").
 ghost use mathlib.Core.Path.{_≡_};
-ghost use mathlib.Core.List.{List, _++_};
-ghost use Prim.Native.Nat.{ℕ, _+_, _≤_, _<_};
-ghost use lib.ListN.{length, drop, set};
+ghost use mathlib.Core.List.{_++_};
+ghost use Prim.Native.Nat.{_+_, _≤_, _<_};
+ghost use lib.ListN.{length, drop};
 ghost use Rattle.tables.specs.Pattern.{shapeOf, ValidPattern};
 ghost use Rattle.containment.specs.Witness.{descendants, ownNode, witnessSize, hook, witnessOf};
 ghost use Rattle.containment.specs.Feasible.{Wrote};
