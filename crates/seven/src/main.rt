@@ -238,10 +238,14 @@ fn contain(a: &[u8], b: &[u8]) {
     match answer {
         Containment::Refused(k) => say_refused(k),
         Containment::Contained => {
+            let mapping = r.mapping;
             say(b"contained:");
-            say_mapping(r.mapping, q.count);
+            say_mapping(mapping, q.count);
         }
-        Containment::Apart { nodes, answer: node } => {
+        Containment::Apart {
+            nodes,
+            answer: node,
+        } => {
             say(b"apart ");
             io::print_decimal(1, nodes as u64);
             say(b" ");
@@ -286,7 +290,14 @@ fn start(packet: &[u8]) {
     let starts = [3u16, 6];
     packets::read_document(&LINE, &mut parents, &mut labels);
     let p = pattern(packet);
-    match answers::started(p, &parents[..7], &labels[..7], &starts, &mut list, &mut work) {
+    match answers::started(
+        p,
+        &parents[..7],
+        &labels[..7],
+        &starts,
+        &mut list,
+        &mut work,
+    ) {
         Counted::Refused(r) => say_refused(r),
         Counted::Count(c) => {
             io::print_decimal(1, c as u64);
@@ -368,20 +379,34 @@ fn main() {
 fn more() {
     let view = pattern(b"\x01\x00\x09\x01\xFF\x01\x00\x02\x00\x01\x00\x03");
     say(b"8 //strip//frame[pose] by //strip//frame ");
-    rewritten(pattern(b"\x01\x00\x0D\x01\xFF\x01\x00\x02\x00\x01\x00\x03\x01\x00\x00\x04"), view);
+    rewritten(
+        pattern(b"\x01\x00\x0D\x01\xFF\x01\x00\x02\x00\x01\x00\x03\x01\x00\x00\x04"),
+        view,
+    );
     say(b"8 frame[pose] started at 3, 6 ");
     start(b"\x01\x00\x09\x00\xFF\x00\x00\x03\x00\x00\x00\x04");
     say(b"9 //strip[control]//frame by //strip//frame ");
-    rewritten(pattern(b"\x01\x00\x0D\x02\xFF\x01\x00\x02\x00\x00\x00\x05\x00\x01\x00\x03"), view);
+    rewritten(
+        pattern(b"\x01\x00\x0D\x02\xFF\x01\x00\x02\x00\x00\x00\x05\x00\x01\x00\x03"),
+        view,
+    );
     say(b"10 /line[.//pose]/strip/frame/pose by /line/strip ");
     rewritten(
-        pattern(b"\x01\x00\x15\x04\xFF\x00\x00\x01\x00\x01\x00\x04\x00\x00\x00\x02\x02\x00\x00\x03\x03\x00\x00\x04"),
+        pattern(
+            b"\x01\x00\x15\x04\xFF\x00\x00\x01\x00\x01\x00\x04\x00\x00\x00\x02\x02\x00\x00\x03\x03\x00\x00\x04",
+        ),
         pattern(b"\x01\x00\x09\x01\xFF\x00\x00\x01\x00\x00\x00\x02"),
     );
     say(b"11 /strip[frame][frame] in /strip[frame] ");
-    contain(b"\x01\x00\x0D\x00\xFF\x00\x00\x02\x00\x00\x00\x03\x00\x00\x00\x03", b"\x01\x00\x09\x00\xFF\x00\x00\x02\x00\x00\x00\x03");
+    contain(
+        b"\x01\x00\x0D\x00\xFF\x00\x00\x02\x00\x00\x00\x03\x00\x00\x00\x03",
+        b"\x01\x00\x09\x00\xFF\x00\x00\x02\x00\x00\x00\x03",
+    );
     say(b"11 /strip[frame] in /strip[frame][frame] ");
-    contain(b"\x01\x00\x09\x00\xFF\x00\x00\x02\x00\x00\x00\x03", b"\x01\x00\x0D\x00\xFF\x00\x00\x02\x00\x00\x00\x03\x00\x00\x00\x03");
+    contain(
+        b"\x01\x00\x09\x00\xFF\x00\x00\x02\x00\x00\x00\x03",
+        b"\x01\x00\x0D\x00\xFF\x00\x00\x02\x00\x00\x00\x03\x00\x00\x00\x03",
+    );
     say(b"12 join ");
     joined(33);
     say(b"12 join ");
