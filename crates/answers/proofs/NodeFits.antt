@@ -1,11 +1,11 @@
 -- Which steps fit at a node, from those that fit at its children and below: one turn of the recursion that decides placements. Assumes nothing.
 use Prim.Native.Nat.{ℕ, zero, suc, _<_}
-use mathlib.Core.Path.{_≡_, refl, sym, _∙_, subst}
+use mathlib.Core.Path.{_≡_, refl, sym}
 use mathlib.Core.Logic.{_⊎_, inl, inr, ⊎-elim}
 use native.Mathlib.Omega.{arith}
 use lib.ListN.{getD}
 use Rattle.tables.specs.Bits.{bit, Marks}
-use Rattle.tables.specs.Tree.{Tree, Child, Below, child, under, From}
+use Rattle.tables.specs.Tree.{Child, Below, child}
 use Rattle.tables.specs.Document.{Document, nodeCount, nodesOf}
 use Rattle.tables.specs.Pattern.{Shape, ValidShape}
 use Rattle.tables.proofs.Marks.{marks-to}
@@ -15,21 +15,6 @@ use Rattle.placing.proofs.Fit.{Able, able, able-ok, able-next}
 use Rattle.placing.proofs.Sending.{task, reaches-able}
 use Rattle.answers.specs.Working.{FitsAt}
 use Rattle.answers.specs.Plan.{FitsBy}
-
--- what is below a row is a child of it or below one
-pub below-top : {T : Tree} {a i : ℕ} → Below T a i → (c : ℕ) × Child T a c × From T c i
-below-top {T} {a} {i} (child c) = (i, c, inl refl)
-below-top {T} {a} {i} (under {m = m} c b) =
-    let r = below-top b in
-    (r .0, r .1, inr (⊎-elim (λ e. child (record { late = c .late; here = c .here; up = c .up ∙ sym e })) (λ d. under c d) (r .2)))
-
-pub top-below : {T : Tree} {a c i : ℕ} → Child T a c → From T c i → Below T a i
-top-below {T} {a} {c} {i} h (inl e) = subst (Below T a) e (child h)
-top-below h (inr b) = join h b
-  where
-    join : {T : Tree} {a c i : ℕ} → Child T a c → Below T c i → Below T a i
-    join h (child d) = under d (child h)
-    join h (under d b) = under d (join h b)
 
 module _ (A : Shape) (d : Document) (va : ValidShape A) where
   pub fits-able : (s i : ℕ) → FitsAt A d i s → (s < A .tree .size) × Able (task A (nodesOf d)) s i

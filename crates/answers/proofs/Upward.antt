@@ -15,11 +15,11 @@ use Rattle.tables.specs.Document.{Document, nodeCount, nodesOf, ValidDocument}
 use Rattle.tables.specs.Pattern.{Shape, ValidShape}
 use Rattle.tables.proofs.Marks.{marks-to, marks-or, marks-none}
 use Rattle.tables.proofs.Rules.{document-ordered}
-use Rattle.tables.proofs.Trees.{below-lt}
+use Rattle.tables.proofs.Trees.{below-lt, below-top, top-below}
 use Rattle.answers.specs.Working.{FitsAt}
 use Rattle.answers.specs.Plan.{FitsBy}
 use Rattle.answers.specs.Passes.{FitsAtChild, FitsUnder, Upward, Handed}
-use Rattle.answers.proofs.NodeFits.{below-top, top-below, node-fits}
+use Rattle.answers.proofs.NodeFits.{node-fits}
 
 module _ (A : Shape) (d : Document) (va : ValidShape A) (vd : ValidDocument d) (seed : ℕ) where
   -- before the first turn: two zeros for each node

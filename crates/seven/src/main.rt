@@ -375,7 +375,7 @@ fn main() {
     more();
 }
 
-// Cases 8 to 12.
+// Cases 8 to 11.
 fn more() {
     let view = pattern(b"\x01\x00\x09\x01\xFF\x01\x00\x02\x00\x01\x00\x03");
     say(b"8 //strip//frame[pose] by //strip//frame ");
@@ -407,6 +407,11 @@ fn more() {
         b"\x01\x00\x09\x00\xFF\x00\x00\x02\x00\x00\x00\x03",
         b"\x01\x00\x0D\x00\xFF\x00\x00\x02\x00\x00\x00\x03\x00\x00\x00\x03",
     );
+    limits();
+}
+
+// Case 12.
+fn limits() {
     say(b"12 join ");
     joined(33);
     say(b"12 join ");
