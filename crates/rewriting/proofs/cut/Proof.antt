@@ -75,7 +75,7 @@ element-copy-out-p-2 : tie.Need-element-copy-out-p-2 Inv-loop μ-loop
 element-copy-out-p-2 c = omega (arith, late c .0)
 
 sub-p : tie.Need-sub-p Inv-loop μ-loop
-sub-p c = late (c .before) .1
+sub-p c = omega (arith, late (c .before) .1)
 
 element-write-p-4 : tie.Need-element-write-p-4 Inv-loop μ-loop
 element-write-p-4 c = omega (arith, late (c .before) .0)
