@@ -1,0 +1,5 @@
+-- The laws of the station, file by file. Assumes nothing.
+pub mod Signed
+pub mod Checking
+pub mod PatternCalls
+pub mod ListCalls

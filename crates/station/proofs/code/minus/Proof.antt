@@ -1,0 +1,18 @@
+-- `station::code::minus` meets its contract. Assumes nothing.
+use native.Mathlib.Omega.{arith}
+use Rattle.station.proofs.Signed.{minus-fits, minus-result}
+use borrow.Author.Needs.{needs}
+use Rattle.station.proofs.code.minus.Statement.{statement}
+use Rattle.station.proofs.code.minus.Tie as tie
+
+cast-result : tie.Need-cast-result
+cast-result c = search needs
+
+sub-result : tie.Need-sub-result
+sub-result c = minus-fits (c .args .k) (omega (arith, c .fits .k))
+
+returns : tie.Need-returns
+returns c = minus-result (c .args .k) (omega (arith, c .fits .k))
+
+pub minus-spec : {M : Type 1} → statement M
+minus-spec = tie.close (tie.spec cast-result sub-result returns)

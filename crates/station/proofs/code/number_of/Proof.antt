@@ -1,0 +1,54 @@
+-- `station::code::number_of` meets its contract: by the two cases of an answer. Assumes nothing.
+use Prim.Native.Nat.{_<_}
+use mathlib.Core.Path.{_≡_, sym, ap, _∙_, subst}
+use native.Mathlib.Omega.{arith}
+use lib.IntN.{pos, negℤ}
+use mir.Syntax.{w8, w64}
+use mir.Val.{Fits, toZ, ofZ}
+use Rattle.station.specs.Code.{codeOf, Small}
+use Rattle.station.proofs.Signed.{plus-result, neg-result}
+use borrow.Author.Needs.{needs}
+use Rattle.station.proofs.code.number_of.Statement.{statement}
+use Rattle.station.proofs.code.number_of.Tie as tie
+
+enum-known-a : tie.Need-enum-known-a
+enum-known-a c = search needs
+
+plus-requires : tie.Need-plus-requires
+plus-requires c κs = subst Small (c .before .a .given .1) (c .before .before .before .pre)
+
+enum-known-a-2 : tie.Need-enum-known-a-2
+enum-known-a-2 c = search needs
+
+refusal-number-requires : tie.Need-refusal-number-requires
+refusal-number-requires c κs = search needs
+
+minus-requires : tie.Need-minus-requires
+minus-requires c κs = search needs
+
+returns : tie.Need-returns
+returns c = 
+    let n = c .before .before .a .given .0 .0 in
+    let e = c .before .before .a .given .1 in
+    let s : n < 65536 = subst Small e (c .before .before .before .before .pre) in
+    subst (λ x. toZ w64 (ofZ w64 (c .plus .result)) ≡ codeOf x) (sym e) (ap (λ z. toZ w64 (ofZ w64 z)) (c .plus .ensures) ∙ plus-result n s)
+
+returns-2 : tie.Need-returns-2
+returns-2 c =
+    let k = c .before .refusal-number .result in
+    let e = c .before .before .before .a2 .given .1 in
+    let f : Fits w8 k = search needs in
+    subst (λ x. toZ w64 (ofZ w64 (c .minus .result)) ≡ codeOf x) (sym e)
+    (ap (λ z. toZ w64 (ofZ w64 z)) (c .minus .ensures) ∙ neg-result k (omega arith) ∙ ap (λ j. negℤ (pos j)) (c .before .refusal-number .ensures))
+
+pub number-of-spec : {M : Type 1} → statement M
+number-of-spec =
+    tie.close
+    (tie.spec
+    enum-known-a
+    plus-requires
+    enum-known-a-2
+    refusal-number-requires
+    minus-requires
+    returns
+    returns-2)

@@ -1,0 +1,4 @@
+-- What a reader must believe of the station, file by file. Assumes nothing.
+pub mod Code
+pub mod Patterns
+pub mod Lists

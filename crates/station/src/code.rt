@@ -1,0 +1,51 @@
+// An answer as the number that C is handed (docs/RULES.md, "From C").
+ghost use Prim.Native.Nat.{_<_};
+ghost use mathlib.Core.Path.{_≡_};
+ghost use lib.IntN.{pos, negℤ};
+ghost use Rattle.tables.specs.Refusal.{number};
+ghost use Rattle.station.specs.Code.{codeOf, Small};
+use tables::Counted;
+use tables::Refusal;
+
+// The number of a refusal.
+fn refusal_number(r: Refusal) -> u8
+    ensures { λ k. ⌜ k ≡ number r ⌝ }
+{
+    match r {
+        Refusal::Version => 1,
+        Refusal::Length => 2,
+        Refusal::BadPattern => 3,
+        Refusal::BadDocument => 4,
+        Refusal::Room => 5,
+        Refusal::Start => 6,
+        Refusal::OtherLabel => 7,
+        Refusal::TooLarge => 8,
+        Refusal::NoLabel => 9,
+    }
+}
+
+// A small count as it is.
+fn plus(n: usize) -> i64
+    requires { ⌜ n < 65536 ⌝ }
+    ensures { λ r. ⌜ r ≡ pos n ⌝ }
+{
+    n as i64
+}
+
+// Minus a small number.
+fn minus(k: u8) -> i64
+    ensures { λ r. ⌜ r ≡ negℤ (pos k) ⌝ }
+{
+    -(k as i64)
+}
+
+// The number of an answer: the count, or minus the number of the refusal.
+pub(crate) fn number_of(a: Counted) -> i64
+    requires { ⌜ Small a ⌝ }
+    ensures { λ r. ⌜ r ≡ codeOf a ⌝ }
+{
+    match a {
+        Counted::Count(n) => plus(n),
+        Counted::Refused(r) => minus(refusal_number(r)),
+    }
+}

@@ -1,0 +1,75 @@
+// The ground station's entries (docs/RULES.md, "From C"): every call on packets and byte slices. An answer is 0 or more; a refusal is minus its number. The
+// functions behind them answer as every call here does; `code` turns their answers into C's number.
+ghost use Rattle.station.specs.Code.{Coded};
+ghost use Rattle.station.specs.Lists.{ReadsInto, ListAnswers, ListStarted};
+ghost use Rattle.station.specs.Patterns.{JoinsPackets, RewritesPackets, CopiesPacket};
+
+mod code;
+mod lists;
+mod patterns;
+
+// The join of a view and a compensation, as packets: the length of the joined pattern's packet, which the room begins with; the bytes past it stay. Refused by the view's packet,
+// the compensation's packet, Start, OtherLabel, TooLarge or Room, the first that applies, with the room as it was.
+#[no_mangle]
+pub extern "C" fn nishkavel_join(view: &[u8], compensation: &[u8], room: &mut [u8]) -> i64
+    ensures { λ r. ⌜ Coded (λ a. JoinsPackets (now (view .entry)) (now (compensation .entry)) (now (room .entry)) a (now (room .exit))) r ⌝ }
+{
+    code::number_of(patterns::join_packets(view, compensation, room))
+}
+
+// The compensation that serves a query by a view, as packets: the length of its packet, which the room begins with, the bytes past it as they were; or 0 where none serves, with
+// the room as it was. Refused by the query's packet, the view's packet, TooLarge or Room, the first that applies, with the room as it was.
+#[no_mangle]
+pub extern "C" fn nishkavel_rewrite(query: &[u8], view: &[u8], room: &mut [u8]) -> i64
+    ensures { λ r. ⌜ Coded (λ a. RewritesPackets (now (query .entry)) (now (view .entry)) (now (room .entry)) a (now (room .exit))) r ⌝ }
+{
+    code::number_of(patterns::rewrite_packets(query, view, room))
+}
+
+// A pattern packet read and written back: its length, with the same bytes at the front of the room and the bytes past them as they were. Refused by the packet or by Room, with
+// the room as it was.
+#[no_mangle]
+pub extern "C" fn nishkavel_copy_pattern(pattern: &[u8], room: &mut [u8]) -> i64
+    ensures { λ r. ⌜ Coded (λ a. CopiesPacket (now (pattern .entry)) (now (room .entry)) a (now (room .exit))) r ⌝ }
+{
+    code::number_of(patterns::copy_packet(pattern, room))
+}
+
+// A document packet read into two lists: the node count n; the first n entries of each list are the parents and the labels, the others stay. Refused by the packet or
+// by Room, with both lists as they were.
+#[no_mangle]
+pub extern "C" fn nishkavel_read_document(document: &[u8], parents: &mut [u16], labels: &mut [u16]) -> i64
+    ensures { λ r. ⌜ Coded (λ a. ReadsInto (now (document .entry)) (now (parents .entry)) (now (labels .entry)) a (now (parents .exit)) (now (labels .exit))) r ⌝ }
+{
+    code::number_of(packets::read_document(document, parents, labels))
+}
+
+// The answers of a packet's pattern in a document that stands in two lists: the count, the answers ascending at the front of `list`, the working entries in `work`; the
+// entries of both past these stay. Refused by the packet, BadDocument or Room, the first that applies, with both lists as they were.
+#[no_mangle]
+pub extern "C" fn nishkavel_list_answers(
+    parents: &[u16],
+    labels: &[u16],
+    pattern: &[u8],
+    list: &mut [u16],
+    work: &mut [u64],
+) -> i64
+    ensures { λ r. ⌜ Coded (λ a. ListAnswers (record { parents = now (parents .entry); labels = now (labels .entry) }) (now (pattern .entry)) (now (list .entry)) (now (work .entry)) a (now (list .exit)) (now (work .exit))) r ⌝ }
+{
+    code::number_of(lists::list_answers(parents, labels, pattern, list, work))
+}
+
+// The same with step 0 at any node of `starts`. Refused by the packet, BadDocument, Start or Room, the first that applies, with both lists as they were.
+#[no_mangle]
+pub extern "C" fn nishkavel_list_started(
+    parents: &[u16],
+    labels: &[u16],
+    pattern: &[u8],
+    starts: &[u16],
+    list: &mut [u16],
+    work: &mut [u64],
+) -> i64
+    ensures { λ r. ⌜ Coded (λ a. ListStarted (record { parents = now (parents .entry); labels = now (labels .entry) }) (now (pattern .entry)) (now (starts .entry)) (now (list .entry)) (now (work .entry)) a (now (list .exit)) (now (work .exit))) r ⌝ }
+{
+    code::number_of(lists::list_started(parents, labels, pattern, starts, list, work))
+}
