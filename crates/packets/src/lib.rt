@@ -30,12 +30,19 @@ fn wide(x: u8) -> u16
     x as u16
 }
 
+// The 16-bit number of two bytes, high byte first.
+pub fn half_of(high: u8, low: u8) -> u16
+    ensures { λ r. ⌜ r ≡ high * 256 + low ⌝ }
+{
+    wide(high) * 256 + wide(low)
+}
+
 // The 16-bit number at byte o, high byte first.
 fn half_at(s: &[u8], o: usize) -> u16
     requires { ⌜ o + 1 < length (now s) ⌝ }
     ensures { λ r. ⌜ r ≡ half (now (s .entry)) o ⌝ }
 {
-    wide(s[o]) * 256 + wide(s[o + 1])
+    half_of(s[o], s[o + 1])
 }
 
 // How many rows of four bytes a packet has, `most` at most, with `extra` bytes between its header and them. Both kinds of packet start with the

@@ -3,3 +3,5 @@ pub mod Signed
 pub mod Checking
 pub mod PatternCalls
 pub mod ListCalls
+pub mod HalfBytes
+pub mod DocumentCalls

@@ -2,3 +2,4 @@
 pub mod Code
 pub mod Patterns
 pub mod Lists
+pub mod Documents

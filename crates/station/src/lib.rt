@@ -1,12 +1,33 @@
 // The ground station's entries (docs/RULES.md, "From C"): every call on packets and byte slices. An answer is 0 or more; a refusal is minus its number. The
 // functions behind them answer as every call here does; `code` turns their answers into C's number.
 ghost use Rattle.station.specs.Code.{Coded};
+ghost use Rattle.station.specs.Documents.{AnswersPackets, StartsPackets};
 ghost use Rattle.station.specs.Lists.{ReadsInto, ListAnswers, ListStarted};
 ghost use Rattle.station.specs.Patterns.{JoinsPackets, RewritesPackets, CopiesPacket};
 
 mod code;
+mod documents;
+mod halves;
 mod lists;
 mod patterns;
+
+// The answers of a packet's pattern in a packet's document: the count, and the answers ascending at the front of the room, two bytes each; the bytes past them stay. Refused
+// by the document packet, the pattern packet or Room, the first that applies, with the room as it was.
+#[no_mangle]
+pub extern "C" fn nishkavel_answers(document: &[u8], pattern: &[u8], room: &mut [u8]) -> i64
+    ensures { λ r. ⌜ Coded (λ a. AnswersPackets (now (document .entry)) (now (pattern .entry)) (now (room .entry)) a (now (room .exit))) r ⌝ }
+{
+    code::number_of(documents::answer_packets(document, pattern, room))
+}
+
+// The same with step 0 at any of the start nodes, two bytes each. Refused by the document packet, the pattern packet, Start or Room, the first that applies, with the room
+// as it was.
+#[no_mangle]
+pub extern "C" fn nishkavel_started(document: &[u8], pattern: &[u8], starts: &[u8], room: &mut [u8]) -> i64
+    ensures { λ r. ⌜ Coded (λ a. StartsPackets (now (document .entry)) (now (pattern .entry)) (now (starts .entry)) (now (room .entry)) a (now (room .exit))) r ⌝ }
+{
+    code::number_of(documents::start_packets(document, pattern, starts, room))
+}
 
 // The join of a view and a compensation, as packets: the length of the joined pattern's packet, which the room begins with; the bytes past it stay. Refused by the view's packet,
 // the compensation's packet, Start, OtherLabel, TooLarge or Room, the first that applies, with the room as it was.

@@ -1,0 +1,41 @@
+-- `station::halves::put_half` meets its contract: two stores in a row. Assumes nothing.
+use Prim.Native.Nat.{suc, _+_}
+use mathlib.Core.Path.{_≡_}
+use mathlib.Core.List.{[], _∷_}
+use native.Mathlib.Omega.{arith}
+use lib.ListN.{length-set}
+use lib.Seq.{sets-eq}
+use denote.Ref.{now}
+use Rattle.packets.specs.Bytes.{high, low}
+use borrow.Author.Needs.{needs}
+use Rattle.station.proofs.halves.put_half.Statement.{statement}
+use Rattle.station.proofs.halves.put_half.Tie as tie
+
+cast-out : tie.Need-cast-out
+cast-out c = search needs
+
+slice-write-out : tie.Need-slice-write-out
+slice-write-out c = search needs
+
+cast-out-2 : tie.Need-cast-out-2
+cast-out-2 c = search needs
+
+add-out : tie.Need-add-out
+add-out c = search needs
+
+slice-write-out-2 : tie.Need-slice-write-out-2
+slice-write-out-2 c = simp length-set (omega arith)
+
+same-length : tie.Need-same-length
+same-length c = search needs
+
+returns : tie.Need-returns
+returns c =
+    let x = c .args in
+    let e : x .at + 1 ≡ suc (x .at) = omega arith in
+    rw e (sets-eq (high (x .x) ∷ low (x .x) ∷ []) (now (x .out)) (x .at) (c .pre))
+
+pub put-half-spec : {M : Type 1} → statement M
+put-half-spec =
+    tie.close
+    (tie.spec cast-out slice-write-out cast-out-2 add-out slice-write-out-2 same-length returns)
