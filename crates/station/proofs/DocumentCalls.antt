@@ -26,7 +26,7 @@ use Rattle.placing.specs.Answer.{Begins, Started, In, StartList}
 use Rattle.answers.specs.Answers.{Found, HasRoom, answerChecks, startedChecks, FindsAnswers, FindsStarted}
 use Rattle.station.specs.Code.{Small}
 use Rattle.station.specs.Patterns.{packetPattern}
-use Rattle.station.specs.Documents.{halfBytes, packed, unpacked, documentRules, firstOf, ReadsAsked, Answered, roomCheck, AnswersPackets, startCheck, StartsPackets}
+use Rattle.station.specs.Documents.{halfBytes, documentRules, firstOf, ReadsAsked, Answered, roomCheck, AnswersPackets}
 use Rattle.station.proofs.Checking.{refuses-front, refuses-rest, passes-both}
 use Rattle.station.proofs.PatternCalls.{packet-valid}
 use Rattle.station.proofs.ListCalls.{ascending-few, answers-few}
@@ -86,17 +86,17 @@ module _ (ds ps parents₀ labels₀ parents labels : List ℕ) (n : ℕ) (p : P
   pub asked-nodes : n ≡ nodeCount (packetDocument ds)
   asked-nodes = t .says .1 .0 ∙ sym (nodes-in ds)
 
-  document-valid : ValidDocument (packetDocument ds)
+  pub document-valid : ValidDocument (packetDocument ds)
   document-valid = t .says .0 .1 .1 .1 .0
 
-  pattern-valid : ValidPattern (packetPattern ps)
+  pub pattern-valid : ValidPattern (packetPattern ps)
   pattern-valid = packet-valid ps (t .says .0 .1 .1 .1 .1)
 
   pub asked-few : n ≤ 2048
   asked-few = omega (arith, asked-nodes, document-valid .few)
 
   -- the answers as bytes
-  answered : (First : ℕ → Type 0) (list₀ work₀ list work room₀ room : List ℕ) (c : ℕ)
+  pub answered : (First : ℕ → Type 0) (list₀ work₀ list work room₀ room : List ℕ) (c : ℕ)
       → Found (shapeOf (packetPattern ps)) (packetDocument ds) First list₀ work₀ c list work → room ≡ blocks (halfBytes list) c ++ drop (2 * c) room₀
       → Answered First (shapeOf (packetPattern ps)) (packetDocument ds) room₀ c room
   unfolding halfBytes
@@ -110,7 +110,7 @@ module _ (ds ps parents₀ labels₀ parents labels : List ℕ) (n : ℕ) (p : P
         written = e ∙ ap (λ xs. xs ++ drop (2 * c) room₀) (same ∙ ap (blocks (halfBytes (f .answers))) (f .count));
       }
 
-  found-small : (First : ℕ → Type 0) (list₀ work₀ list work : List ℕ) (c : ℕ) → Found (shapeOf (packetPattern ps)) (packetDocument ds) First list₀ work₀ c list work → c ≤ n
+  pub found-small : (First : ℕ → Type 0) (list₀ work₀ list work : List ℕ) (c : ℕ) → Found (shapeOf (packetPattern ps)) (packetDocument ds) First list₀ work₀ c list work → c ≤ n
   found-small First list₀ work₀ list work c f =
       omega (arith, asked-nodes, f .count, answers-few First (shapeOf (packetPattern ps)) (packetDocument ds) (f .answers) (pattern-valid .output) (f .lists))
 

@@ -5,3 +5,4 @@ pub mod PatternCalls
 pub mod ListCalls
 pub mod HalfBytes
 pub mod DocumentCalls
+pub mod StartCalls
