@@ -51,8 +51,17 @@ module _ (ds ps parents₀ labels₀ parents labels : List ℕ) (f : 2048 ≤ le
   -- the room is never too short
   rules-only : (r : Refusal) → Refuses (documentChecks ds (length parents₀) (length labels₀)) r → Refuses (documentRules ds) r
   rules-only r h =
-      ⊎-elim inl (λ a. inr (a .0, ⊎-elim inl (λ b. inr (b .0, ⊎-elim inl (λ c. inr (c .0, ⊎-elim inl (λ e. absurd (⊎-elim
-      (λ z. z .0 (omega (arith, c .0 .1 .few, c .0 .1 .field), omega (arith, c .0 .1 .few, c .0 .1 .field))) (λ z. z .1) (e .1))) (c .1))) (b .1))) (a .1))) h
+      ⊎-elim inl (λ a. inr (
+        a .0,
+        ⊎-elim inl (λ b. inr (
+          b .0,
+          ⊎-elim inl (λ c. inr (
+            c .0,
+            ⊎-elim inl (λ e. absurd (⊎-elim
+                (λ z. z .0 (omega (arith, c .0 .1 .few, c .0 .1 .field), omega (arith, c .0 .1 .few, c .0 .1 .field))) (λ z. z .1) (e .1))) (c .1),
+          )) (b .1),
+        )) (a .1),
+      )) h
 
   rules-hold : Passes (documentChecks ds (length parents₀) (length labels₀)) → Passes (documentRules ds)
   rules-hold h = (h .0, (h .1 .0, (h .1 .1 .0, (h .1 .1 .1 .0, tt))))
@@ -102,7 +111,7 @@ module _ (ds ps parents₀ labels₀ parents labels : List ℕ) (n : ℕ) (p : P
   unfolding halfBytes
   answered First list₀ work₀ list work room₀ room c f e =
       let same : blocks (halfBytes list) c ≡ blocks (halfBytes (f .answers)) c = blocks-ext (halfBytes list) (halfBytes (f .answers)) c
-          (λ k l. ap (λ x. x / 256 ∷ x % 256 ∷ []) (ap (λ xs. getD xs k 0) (f .written) ∙ List·getD-append (f .answers) (drop c list₀) 0 k (omega (arith, f .count)))) in
+      (λ k l. ap (λ x. x / 256 ∷ x % 256 ∷ []) (ap (λ xs. getD xs k 0) (f .written) ∙ List·getD-append (f .answers) (drop c list₀) 0 k (omega (arith, f .count)))) in
       record {
         answers = f .answers;
         lists = f .lists;

@@ -6,3 +6,5 @@ pub mod ListCalls
 pub mod HalfBytes
 pub mod DocumentCalls
 pub mod StartCalls
+pub mod WitnessBytes
+pub mod ContainCalls

@@ -82,8 +82,10 @@ module _ (us es room₀ room : List ℕ) where
         let X : ℕ → Type 0 = λ c. Put (joinOf J E) room₀ c room in
         let Y : Type 0 = room ≡ room₀ in
         let z : List Check = record { asks = lengthOf (joinOf J E) ≤ length room₀; gives = 5 } ∷ [] in
-        record { says = counted-rest front (joinChecks J E ++ z) a X Y (t .says .0)
-        (counted-rest (joinChecks J E) z a X Y (d .0) (writes (joinOf J E) room₀ room a v (subst (λ x. WritesPattern x room₀ a room) (d .1) w))) }
+        record {
+          says = counted-rest front (joinChecks J E ++ z) a X Y (t .says .0)
+              (counted-rest (joinChecks J E) z a X Y (d .0) (writes (joinOf J E) room₀ room a v (subst (λ x. WritesPattern x room₀ a room) (d .1) w)));
+        }
 
 module _ (qs us room₀ room : List ℕ) where
   abbrev front2 : List Check
@@ -120,13 +122,15 @@ module _ (qs us room₀ room : List ℕ) where
         let v : ValidPattern (w .pattern) = n .2 .joinable .1 .0 in
         let X : ℕ → Type 0 = λ c. Rewritten Q U room₀ c room in
         let Y : Type 0 = room ≡ room₀ in
-        record { says = counted-rest front2 (rewritingChecks Q U ++ last) a X Y (t .says .0)
-        (counted-rest (rewritingChecks Q U) last a X Y (n .0)
-        (counted-other 5 a (λ c. Put (w .pattern) room₀ c room) X Y
-        (λ l E z. subst (λ y. lengthOf y ≤ length room₀) (candidate-unique (s .0) (z .0)) l)
-        (λ f. f (w .pattern) s)
-        (λ c z. handed s c z)
-        (writes (w .pattern) room₀ room a v x))) }
+        record {
+          says = counted-rest front2 (rewritingChecks Q U ++ last) a X Y (t .says .0)
+              (counted-rest (rewritingChecks Q U) last a X Y (n .0)
+              (counted-other 5 a (λ c. Put (w .pattern) room₀ c room) X Y
+              (λ l E z. subst (λ y. lengthOf y ≤ length room₀) (candidate-unique (s .0) (z .0)) l)
+              (λ f. f (w .pattern) s)
+              (λ c z. handed s c z)
+              (writes (w .pattern) room₀ room a v x)));
+        }
       where
         handed : ServesBy (packetPattern qs) (packetPattern us) (w .pattern) → (c : ℕ) → Put (w .pattern) room₀ c room → Rewritten (packetPattern qs) (packetPattern us) room₀ c room
         handed s zero z = absurd (omega (arith, z .0))
@@ -144,12 +148,14 @@ module _ (bs room₀ room : List ℕ) (x : PatternRead) (b : Bytes bs) (h : Deci
       let size : lengthOf p ≡ length bs = sym (pattern-packet-length (shapeOf p)) ∙ ap length same in
       let X : ℕ → Type 0 = λ c. (c ≡ length bs) × (room ≡ bs ++ drop c room₀) in
       let Y : Type 0 = room ≡ room₀ in
-      record { says = counted-rest (patternChecks bs) (record { asks = length bs ≤ length room₀; gives = 5 } ∷ []) a X Y (h .0)
-      (counted-other 5 a (λ c. Put p room₀ c room) X Y
-      (λ l. omega (arith, size))
-      (λ l. omega (arith, size))
-      (λ c z. (z .0 ∙ size, z .1 ∙ ap (λ y. y ++ drop c room₀) same))
-      (writes p room₀ room a (packet-valid bs (h .0)) (subst (λ y. WritesPattern y room₀ a room) (h .1) w))) }
+      record {
+        says = counted-rest (patternChecks bs) (record { asks = length bs ≤ length room₀; gives = 5 } ∷ []) a X Y (h .0)
+            (counted-other 5 a (λ c. Put p room₀ c room) X Y
+            (λ l. omega (arith, size))
+            (λ l. omega (arith, size))
+            (λ c z. (z .0 ∙ size, z .1 ∙ ap (λ y. y ++ drop c room₀) same))
+            (writes p room₀ room a (packet-valid bs (h .0)) (subst (λ y. WritesPattern y room₀ a room) (h .1) w)));
+      }
 
 -- the counts are small
 put-small : (p : Pattern) (room₀ room : List ℕ) (c : ℕ) → p .count ≤ 64 → Put p room₀ c room → c < 65536

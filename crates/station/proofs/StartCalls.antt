@@ -53,8 +53,15 @@ module _ (ds ps ss parents₀ labels₀ parents labels : List ℕ) (n : ℕ) (p 
   starts-many room₀ room o k =
       let f : ℕ → ℕ = λ i. half ss (2 * i) in
       refused room₀ room Start
-      (inl (λ z. omega (arith, asked-nodes ds ps parents₀ labels₀ parents labels n p t, column-length f (length ss / 2),
-      ascending-few (column f (length ss / 2)) (nodeCount (packetDocument ds)) (z .2 .ascending) (z .2 .nodes)), refl))
+      (inl (
+        λ z. omega (
+          arith,
+          asked-nodes ds ps parents₀ labels₀ parents labels n p t,
+          column-length f (length ss / 2),
+          ascending-few (column f (length ss / 2)) (nodeCount (packetDocument ds)) (z .2 .ascending) (z .2 .nodes),
+        ),
+        refl,
+      ))
       k
 
   module _ (from list work : List ℕ) (g : from ≡ column (λ i. half ss (2 * i)) (length ss / 2) ++ drop (length ss / 2) (replicate 2048 0)) (even : length ss % 2 ≡ 0) where

@@ -3,3 +3,4 @@ pub mod Code
 pub mod Patterns
 pub mod Lists
 pub mod Documents
+pub mod Contained

@@ -29,12 +29,7 @@ fn first_of(n: Counted, read: Checked) -> Counted
 }
 
 // The document of one packet, into two lists with room for any, and the pattern of another; the document's packet is checked first.
-fn read_asked(
-    document: &[u8],
-    pattern: &[u8],
-    parents: &mut [u16],
-    labels: &mut [u16],
-) -> AskedRead
+fn read_asked(document: &[u8], pattern: &[u8], parents: &mut [u16], labels: &mut [u16]) -> AskedRead
     requires { ⌜ (2048 ≤ length (now parents)) × (2048 ≤ length (now labels)) ⌝ }
     ensures { λ r. ⌜ ReadsAsked (now (document .entry)) (now (pattern .entry)) (now (parents .entry)) (now (labels .entry)) (r .answer) (r .pattern) (now (parents .exit)) (now (labels .exit)) ⌝ }
 {

@@ -1,11 +1,13 @@
 // The ground station's entries (docs/RULES.md, "From C"): every call on packets and byte slices. An answer is 0 or more; a refusal is minus its number. The
 // functions behind them answer as every call here does; `code` turns their answers into C's number.
 ghost use Rattle.station.specs.Code.{Coded};
+ghost use Rattle.station.specs.Contained.{ContainsPackets};
 ghost use Rattle.station.specs.Documents.{AnswersPackets, StartsPackets};
 ghost use Rattle.station.specs.Lists.{ReadsInto, ListAnswers, ListStarted};
 ghost use Rattle.station.specs.Patterns.{JoinsPackets, RewritesPackets, CopiesPacket};
 
 mod code;
+mod contained;
 mod documents;
 mod halves;
 mod lists;
@@ -23,10 +25,25 @@ pub extern "C" fn nishkavel_answers(document: &[u8], pattern: &[u8], room: &mut 
 // The same with step 0 at any of the start nodes, two bytes each. Refused by the document packet, the pattern packet, Start or Room, the first that applies, with the room
 // as it was.
 #[no_mangle]
-pub extern "C" fn nishkavel_started(document: &[u8], pattern: &[u8], starts: &[u8], room: &mut [u8]) -> i64
+pub extern "C" fn nishkavel_started(
+    document: &[u8],
+    pattern: &[u8],
+    starts: &[u8],
+    room: &mut [u8],
+) -> i64
     ensures { λ r. ⌜ Coded (λ a. StartsPackets (now (document .entry)) (now (pattern .entry)) (now (starts .entry)) (now (room .entry)) a (now (room .exit))) r ⌝ }
 {
     code::number_of(documents::start_packets(document, pattern, starts, room))
+}
+
+// Is the pattern of one packet contained in that of another? 1, with the smallest mapping in the first 64 bytes of the room; or 0, with the packet of a witness at the front of
+// the room and then the node, two bytes, that the first pattern answers there and the second does not. The bytes past these stay. Refused by the first packet, the second, NoLabel or
+// Room, the first that applies, with the room as it was.
+#[no_mangle]
+pub extern "C" fn nishkavel_contained(a: &[u8], b: &[u8], room: &mut [u8]) -> i64
+    ensures { λ r. ⌜ Coded (λ c. ContainsPackets (now (a .entry)) (now (b .entry)) (now (room .entry)) c (now (room .exit))) r ⌝ }
+{
+    code::number_of(contained::contain_packets(a, b, room))
 }
 
 // The join of a view and a compensation, as packets: the length of the joined pattern's packet, which the room begins with; the bytes past it stay. Refused by the view's packet,
@@ -59,7 +76,11 @@ pub extern "C" fn nishkavel_copy_pattern(pattern: &[u8], room: &mut [u8]) -> i64
 // A document packet read into two lists: the node count n; the first n entries of each list are the parents and the labels, the others stay. Refused by the packet or
 // by Room, with both lists as they were.
 #[no_mangle]
-pub extern "C" fn nishkavel_read_document(document: &[u8], parents: &mut [u16], labels: &mut [u16]) -> i64
+pub extern "C" fn nishkavel_read_document(
+    document: &[u8],
+    parents: &mut [u16],
+    labels: &mut [u16],
+) -> i64
     ensures { λ r. ⌜ Coded (λ a. ReadsInto (now (document .entry)) (now (parents .entry)) (now (labels .entry)) a (now (parents .exit)) (now (labels .exit))) r ⌝ }
 {
     code::number_of(packets::read_document(document, parents, labels))

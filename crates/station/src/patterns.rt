@@ -8,9 +8,9 @@ use tables::Pattern;
 
 // Two patterns that were read, and the answer for both.
 pub(crate) struct TwoRead {
-    answer: Checked,
-    first: Pattern,
-    second: Pattern,
+    pub(crate) answer: Checked,
+    pub(crate) first: Pattern,
+    pub(crate) second: Pattern,
 }
 
 // The first refusal of two answers, if there is one.

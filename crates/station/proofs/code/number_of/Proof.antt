@@ -27,7 +27,7 @@ minus-requires : tie.Need-minus-requires
 minus-requires c κs = search needs
 
 returns : tie.Need-returns
-returns c = 
+returns c =
     let n = c .before .before .a .given .0 .0 in
     let e = c .before .before .a .given .1 in
     let s : n < 65536 = subst Small e (c .before .before .before .before .pre) in

@@ -1,0 +1,86 @@
+-- `station::contained::put_document` meets its contract: the header and the nodes before the one looked at are written. Assumes nothing.
+use Prim.Native.Nat.{_+_, _*_, _-_}
+use mathlib.Core.Path.{_∙_}
+use native.Mathlib.Omega.{arith}
+use denote.Ref.{now}
+use borrow.Author.Needs.{needs}
+use Rattle.packets.specs.DocumentPacket.{nodeBytes}
+use Rattle.station.proofs.WitnessBytes.{Written, written-head, written-next, written-all}
+use Rattle.station.proofs.contained.put_document.Statement.{statement}
+use Rattle.station.proofs.contained.put_document.Tie as tie
+
+abbrev Inv-loop : tie.InvT-loop
+Inv-loop parents labels room₀ n i₀ room i = Written (record { parents = parents; labels = labels }) room₀ i room
+
+abbrev μ-loop : tie.MeasureT-loop
+μ-loop parents labels room₀ n i₀ room i = n - i
+
+put-head-requires : tie.Need-put-head-requires Inv-loop μ-loop
+put-head-requires c κs = (omega arith, omega arith)
+
+loop-holds : tie.Need-loop-holds Inv-loop μ-loop
+loop-holds c = let a = c .before .before .before .before .before .before .before .args in written-head (record { parents = now (a .parents); labels = now (a .labels) }) _ (now (a .room)) (c .before .before .put-head .ensures)
+
+mul-put-node : tie.Need-mul-put-node Inv-loop μ-loop
+mul-put-node c = omega arith
+
+add-put-node : tie.Need-add-put-node Inv-loop μ-loop
+add-put-node c = omega arith
+
+mul-put-node-2 : tie.Need-mul-put-node-2 Inv-loop μ-loop
+mul-put-node-2 c = omega arith
+
+shared-slice-read-put-node : tie.Need-shared-slice-read-put-node Inv-loop μ-loop
+shared-slice-read-put-node c = omega arith
+
+mul-put-node-3 : tie.Need-mul-put-node-3 Inv-loop μ-loop
+mul-put-node-3 c = omega arith
+
+shared-slice-read-put-node-2 : tie.Need-shared-slice-read-put-node-2 Inv-loop μ-loop
+shared-slice-read-put-node-2 c = omega arith
+
+put-node-requires : tie.Need-put-node-requires Inv-loop μ-loop
+put-node-requires c κs = omega arith
+
+add-i : tie.Need-add-i Inv-loop μ-loop
+add-i c = omega arith
+
+loop-less : tie.Need-loop-less Inv-loop μ-loop
+loop-less c = omega arith
+
+loop-again : tie.Need-loop-again Inv-loop μ-loop
+unfolding nodeBytes
+loop-again c =
+    let l = c .before .before .before .before .before .before .before .loop in
+    let a = c .before .before .before .before .before .before .before .before .before .before .before .before .before .before .before .args in
+    written-next (record { parents = now (a .parents); labels = now (a .labels) }) _ (l .i) (l .room) _ (omega arith) (c .before .before .put-node .kept .0) (c .before .before .put-node .ensures) (l .inv)
+
+same-length : tie.Need-same-length Inv-loop μ-loop
+same-length c = c .before .loop .inv .same ∙ c .before .before .before .before .put-head .kept .0
+
+returns : tie.Need-returns Inv-loop μ-loop
+returns c =
+    let l = c .before .loop in
+    let a = c .before .before .before .before .before .before .before .before .before .args in
+    written-all (record { parents = now (a .parents); labels = now (a .labels) }) _ (now (a .room)) (l .room) (l .i) (omega arith) (c .before .before .before .before .put-head .ensures) (l .inv)
+
+pub put-document-spec : {M : Type 1} → statement M
+put-document-spec =
+    tie.close
+    (tie.spec
+    Inv-loop
+    μ-loop
+    put-head-requires
+    loop-holds
+    mul-put-node
+    add-put-node
+    mul-put-node-2
+    shared-slice-read-put-node
+    mul-put-node-3
+    shared-slice-read-put-node-2
+    put-node-requires
+    add-i
+    loop-less
+    loop-again
+    same-length
+    returns)

@@ -1,0 +1,64 @@
+-- `station::contained::put_mapping` meets its contract: the steps before the one looked at are written. Assumes nothing.
+use Prim.Native.Nat.{_+_, _-_, _≤_}
+use mathlib.Core.Path.{_≡_, refl}
+use mathlib.Core.List.{_++_}
+use native.Mathlib.Omega.{arith}
+use lib.ListN.{length, getD, drop, length-set}
+use denote.Ref.{now}
+use borrow.Author.Needs.{needs}
+use Rattle.tables.specs.Column.{blocks, column}
+use Rattle.tables.proofs.Columns.{column-next}
+use Rattle.containment.specs.Containment.{stepNo}
+use Rattle.station.proofs.contained.put_mapping.Statement.{statement}
+use Rattle.station.proofs.contained.put_mapping.Tie as tie
+
+abbrev Inv-loop : tie.InvT-loop
+Inv-loop room₀ mapping k₀ room k = (k ≤ 64) × (length room ≡ length room₀) × (room ≡ column (λ j. getD mapping j (stepNo 0) .0) k ++ drop k room₀)
+
+abbrev μ-loop : tie.MeasureT-loop
+μ-loop room₀ mapping k₀ room k = 64 - k
+
+loop-holds : tie.Need-loop-holds Inv-loop μ-loop
+unfolding blocks
+loop-holds c = search needs
+
+array-copy-out-s : tie.Need-array-copy-out-s Inv-loop μ-loop
+array-copy-out-s c = search needs
+
+slice-write-room : tie.Need-slice-write-room Inv-loop μ-loop
+slice-write-room c = search needs
+
+add-k : tie.Need-add-k Inv-loop μ-loop
+add-k c = search needs
+
+loop-less : tie.Need-loop-less Inv-loop μ-loop
+loop-less c = search needs
+
+loop-again : tie.Need-loop-again Inv-loop μ-loop
+loop-again c =
+    let l = c .before .before .loop in
+    let a = c .before .before .before .args in
+    (omega arith, simp length-set (l .inv .1), rw (l .inv .2) (column-next (λ j. getD (a .t1) j (stepNo 0) .0) (now (a .room)) (l .k) _ (omega arith) refl))
+
+same-length : tie.Need-same-length Inv-loop μ-loop
+same-length c = search needs
+
+returns : tie.Need-returns Inv-loop μ-loop
+returns c =
+    let e : c .before .loop .k ≡ 64 = omega arith in
+    rw e at (c .before .loop .inv .2)
+
+pub put-mapping-spec : {M : Type 1} → statement M
+put-mapping-spec =
+    tie.close
+    (tie.spec
+    Inv-loop
+    μ-loop
+    loop-holds
+    array-copy-out-s
+    slice-write-room
+    add-k
+    loop-less
+    loop-again
+    same-length
+    returns)
