@@ -66,11 +66,11 @@ pub fn answers(
     if let Checked::Refused(r) = tables::check_document(parents, labels) {
         return Counted::Refused(r);
     }
-    let n = parents.len();
-    if list.len() < n {
+    let nodes = parents.len();
+    if list.len() < nodes {
         return Counted::Refused(Refusal::Room);
     }
-    if work.len() / 2 < n {
+    if work.len() / 2 < nodes {
         return Counted::Refused(Refusal::Room);
     }
     Counted::Count(find(p, parents, labels, list, work))

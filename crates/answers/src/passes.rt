@@ -80,8 +80,8 @@ pub(crate) fn mark_starts(starts: &[u16], n: usize, work: &mut [u64])
 {
     let mut k = 0;
     while k < starts.len() {
-        let x = starts[k] as usize;
-        work[2 * x + 1] = 1;
+        let node = starts[k] as usize;
+        work[2 * node + 1] = 1;
         k += 1;
     }
 }

@@ -24,7 +24,7 @@ join-requires : tie.Need-join-requires
 join-requires c κs = search needs
 
 within-requires : tie.Need-within-requires
-within-requires c κs = (valid (c .before), c .before .before .pre .0)
+within-requires c κs = search (needs, valid (c .before))
 
 returns : tie.Need-returns
 returns c =
@@ -33,7 +33,7 @@ returns c =
     (λ t. absurd t, λ e. failed (w .result) (c .if1 .taken) (w .ensures .1 (subst (λ p. Contained (shapeOf p) (shapeOf (x .before .args .q))) (sym (joined x)) (e .to))))
 
 within-requires-2 : tie.Need-within-requires-2
-within-requires-2 c κs = (c .before .before .before .before .pre .0, valid (c .before .before .before))
+within-requires-2 c κs = search (needs, valid (c .before .before .before))
 
 returns-2 : tie.Need-returns-2
 returns-2 c =

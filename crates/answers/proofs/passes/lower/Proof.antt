@@ -37,7 +37,7 @@ note-requires : tie.Need-note-requires Inv-loop μ-loop
 note-requires c κs =
     let m = c .before .before .before .before .before .before .before in
     let s = m .before .before .before .before in
-    (omega (arith, s .pre .0 .3, m .loop .inv .3, m .loop .inv .4), omega (arith, s .pre .0 .1, m .loop .inv .4), omega (arith, s .pre .0 .1), s .pre .0 .0)
+    (omega (arith, s .pre .0 .3, m .loop .inv .3, m .loop .inv .4), omega (arith, s .pre .0 .1, m .loop .inv .4), omega (arith, s .pre .0 .1), omega (arith, s .pre .0 .0))
 
 add-i : tie.Need-add-i Inv-loop μ-loop
 add-i c = omega arith

@@ -1,10 +1,12 @@
 -- Each start node's second entry is set to 1, and no other entry. Assumes nothing.
-use Prim.Native.Nat.{_+_, _*_, _-_, _<_, _≤_}
+use Prim.Native.Nat.{ℕ, _+_, _*_, _-_, _<_, _≤_}
 use mathlib.Core.Path.{_≡_}
 use lib.ListN.{length, getD}
 use native.Mathlib.Omega.{arith}
 use native.Mathlib.Numerals.{add-one}
 use denote.Ref.{now}
+use mir.Syntax.{w16, w64}
+use mir.Val.{Fits}
 use Rattle.answers.proofs.Starts.{MarkedTo, marked-start, marked-more, marked-all, marked-others}
 use Rattle.answers.proofs.passes.mark_starts.Statement.{statement}
 use Rattle.answers.proofs.passes.mark_starts.Tie as tie
@@ -15,39 +17,37 @@ Inv-loop starts n work₀ k₀ work k = (k ≤ length starts) × MarkedTo starts
 abbrev μ-loop : tie.MeasureT-loop
 μ-loop starts n work₀ k₀ work k = length starts - k
 
+-- what marking a node asks of a 16-bit number
+slots : (x : ℕ) → Fits w16 x → Fits w64 x × Fits w64 (2 * x) × Fits w64 (2 * x + 1) × Fits w64 ((2 * x + 1) * 8)
+slots x f = (omega arith, omega arith, omega arith, omega arith)
+
+-- the second entry of every start node is in the list
+room : (l : tie.At-loop Inv-loop μ-loop) (i : ℕ) → i < length (now (l .before .args .starts)) → 2 * getD (now (l .before .args .starts)) i 0 + 1 < length (l .loop .work)
+room l i h = omega (arith, l .before .pre .1 i h, l .before .pre .0, l .loop .inv .1 .same-length)
+
 loop-holds : tie.Need-loop-holds Inv-loop μ-loop
 loop-holds c = (omega arith, marked-start _ _)
 
-mul-x : tie.Need-mul-x Inv-loop μ-loop
-mul-x c = omega arith
+mul-node : tie.Need-mul-node Inv-loop μ-loop
+mul-node c = omega arith
 
-shared-slice-read-x : tie.Need-shared-slice-read-x Inv-loop μ-loop
-shared-slice-read-x c = omega arith
+shared-slice-read-node : tie.Need-shared-slice-read-node Inv-loop μ-loop
+shared-slice-read-node c = omega arith
 
-cast-x : tie.Need-cast-x Inv-loop μ-loop
-cast-x c =
-    let l = c .before .before in
-    omega (arith, l .before .pre .1 (l .loop .k) (omega arith))
+cast-node : tie.Need-cast-node Inv-loop μ-loop
+cast-node c = slots _ (c .shared-slice-known .given _) .0
 
 mul-work : tie.Need-mul-work Inv-loop μ-loop
-mul-work c =
-    let l = c .before .before in
-    omega (arith, l .before .pre .1 (l .loop .k) (omega arith))
+mul-work c = slots _ (c .shared-slice-known .given _) .1
 
 add-work : tie.Need-add-work Inv-loop μ-loop
-add-work c =
-    let l = c .before .before in
-    omega (arith, l .before .pre .1 (l .loop .k) (omega arith))
+add-work c = slots _ (c .shared-slice-known .given _) .2
 
 mul-work-2 : tie.Need-mul-work-2 Inv-loop μ-loop
-mul-work-2 c =
-    let l = c .before .before in
-    omega (arith, l .before .pre .1 (l .loop .k) (omega arith))
+mul-work-2 c = slots _ (c .shared-slice-known .given _) .3
 
 slice-write-work : tie.Need-slice-write-work Inv-loop μ-loop
-slice-write-work c =
-    let l = c .before .before in
-    omega (arith, l .before .pre .1 (l .loop .k) (omega arith), l .before .pre .0, l .loop .inv .1 .same-length)
+slice-write-work c = room (c .before .before) _ (omega arith)
 
 add-k : tie.Need-add-k Inv-loop μ-loop
 add-k c = omega arith
@@ -58,9 +58,7 @@ loop-less c = omega arith
 loop-again : tie.Need-loop-again Inv-loop μ-loop
 loop-again c =
     let l = c .before .before in
-    let r : 2 * getD (now (l .before .args .starts)) (l .loop .k) 0 + 1 < length (l .loop .work)
-    = omega (arith, l .before .pre .1 (l .loop .k) (omega arith), l .before .pre .0, l .loop .inv .1 .same-length) in
-    (omega arith, rw (add-one (l .loop .k)) (marked-more _ _ (l .loop .k) (l .loop .work) (l .loop .inv .1) r))
+    (omega arith, rw (add-one (l .loop .k)) (marked-more _ _ (l .loop .k) (l .loop .work) (l .loop .inv .1) (room l (l .loop .k) (omega arith))))
 
 same-length : tie.Need-same-length Inv-loop μ-loop
 same-length c = c .before .loop .inv .1 .same-length
@@ -79,9 +77,9 @@ mark-starts-spec =
     Inv-loop
     μ-loop
     loop-holds
-    mul-x
-    shared-slice-read-x
-    cast-x
+    mul-node
+    shared-slice-read-node
+    cast-node
     mul-work
     add-work
     mul-work-2

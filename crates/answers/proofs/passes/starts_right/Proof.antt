@@ -1,6 +1,6 @@
 -- The list is read once: each entry is at least one more than the one before it, and below n. Assumes nothing.
 use Prim.Native.Nat.{suc, _-_, _≤_}
-use mathlib.Core.Path.{_≡_}
+use mathlib.Core.Path.{_≡_, subst}
 use lib.ListN.{length, getD}
 use native.Mathlib.Omega.{arith}
 use native.Mathlib.Numerals.{add-one}
@@ -51,9 +51,10 @@ loop-less c = omega arith
 loop-again : tie.Need-loop-again Inv-loop μ-loop
 loop-again c =
     let l = c .before .before .before .before in
-    let r : Rising (now (l .before .args .starts)) (l .before .args .n) (suc (l .loop .k)) (suc (getD (now (l .before .args .starts)) (l .loop .k) 0))
-    = rising-more _ _ (l .loop .k) (l .loop .least) (l .loop .inv .1) (omega arith) (omega arith) in
-    (omega arith, rw (add-one (l .loop .k), add-one (getD (now (l .before .args .starts)) (l .loop .k) 0)) r)
+    let xs = now (l .before .args .starts) in
+    let k = l .loop .k in
+    let r : Rising xs (l .before .args .n) (suc k) (suc (getD xs k 0)) = rising-more _ _ k (l .loop .least) (l .loop .inv .1) (omega arith) (omega arith) in
+    (omega arith, rw (add-one k) (subst (Rising xs (l .before .args .n) (suc k)) {x = suc (getD xs k 0)} (omega arith) r))
 
 returns-3 : tie.Need-returns-3 Inv-loop μ-loop
 returns-3 c =
