@@ -45,7 +45,7 @@ module _ (A : Shape) (d : Document) (First : ℕ → Type 0) where
   )
 
   -- whatever is checked first, one count and one content of each list fit
-  one-found : (cs : List Check) (list₀ work₀ : List ℕ) (r q : Counted) (list work list′ work′ : List ℕ)
+  pub one-found : (cs : List Check) (list₀ work₀ : List ℕ) (r q : Counted) (list work list′ work′ : List ℕ)
       → CountedBy cs r (λ c. Found A d First list₀ work₀ c list work) ((list ≡ list₀) × (work ≡ work₀))
       → CountedBy cs q (λ c. Found A d First list₀ work₀ c list′ work′) ((list′ ≡ list₀) × (work′ ≡ work₀))
       → (r ≡ q) × (list ≡ list′) × (work ≡ work′)

@@ -8,3 +8,4 @@ pub mod DocumentCalls
 pub mod StartCalls
 pub mod WitnessBytes
 pub mod ContainCalls
+pub mod Unique
