@@ -16,7 +16,7 @@ use Rattle.tables.proofs.Bits.{bit-zero}
 use Rattle.tables.proofs.Marks.{marks-none, marks-to, marks-bits, marks-or, marks-and, marks-without}
 use Rattle.tables.proofs.Rules.{shape-ordered}
 use Rattle.tables.proofs.Trees.{below-lt}
-use Rattle.tables.proofs.Gathered.{Among, Keyed, keyed-all}
+use Rattle.tables.proofs.Gathered.{Keyed, keyed-all}
 use Rattle.containment.specs.Feasible.{OfLabel}
 use Rattle.containment.specs.Lookup.{without, Labelled, Next, LaterChild, Grouped, Groups, Reached}
 
@@ -53,12 +53,6 @@ module _ (B : Shape) (low mid high : List ℕ) where
       (λ s q. (q .0 .0 .0, parts-same (B .label s) l (q .0 .0 .1) (q .0 .1 .1) (q .1 .1)))
       (λ s q. (((q .0, ap (λ x. x % 64) (q .1)), (q .0, ap (λ x. x / 64 % 64) (q .1))), (q .0, ap (λ x. x / 4096) (q .1))))
       (marks-and (bitAnd x y) z (λ s. Low s × Mid s) High (marks-and x y Low Mid (t .lows (l % 64)) (t .mids (l / 64 % 64))) (t .highs (l / 4096)))
-
--- the child steps of all steps, by their parent
-pub children-all : (B : Shape) (to : List ℕ) → Keyed (B .tree .parent) 1 (B .tree .size) to → (s : ℕ) → Marks (getD to s 0) (Child (B .tree) s)
-children-all B to m s =
-    marks-to (getD to s 0) (Among 1 (B .tree .size) (λ t. B .tree .parent t ≡ s)) (Child (B .tree) s)
-    (λ t q. record { late = q .0; here = q .1; up = q .2 }) (λ t q. (q .late, q .here, q .up)) (m .entry s)
 
 module _ (to : List ℕ) (next : ℕ) where
   -- no step has had its turn

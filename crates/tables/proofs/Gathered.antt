@@ -9,6 +9,7 @@ use lib.Bits.{bitOr}
 use lib.ListN.{length, getD, set, replicate, length-replicate, getD-replicate, List·getD-eq-default}
 use lib.Seq.{getD-set-same, getD-set-other}
 use Rattle.tables.specs.Bits.{Marks}
+use Rattle.tables.specs.Tree.{Child}
 use Rattle.tables.specs.Pattern.{Shape, ValidShape}
 use Rattle.tables.proofs.Marks.{marks-none, marks-to, marks-with}
 use Rattle.tables.proofs.Rules.{shape-ordered}
@@ -74,6 +75,12 @@ pub keyed-all : (f : ℕ → ℕ) (n : ℕ) (table : List ℕ) → Keyed f 0 n t
 keyed-all f n table m b =
     marks-to (getD table b 0) (Among 0 n (λ s. f s ≡ b)) (λ s. (s < n) × (f s ≡ b))
     (λ s q. (q .1, q .2)) (λ s q. (omega arith, q .0, q .1)) (m .entry b)
+
+-- the child steps of all steps, by their parent
+pub children-all : (A : Shape) (to : List ℕ) → Keyed (A .tree .parent) 1 (A .tree .size) to → (s : ℕ) → Marks (getD to s 0) (Child (A .tree) s)
+children-all A to m s =
+    marks-to (getD to s 0) (Among 1 (A .tree .size) (λ t. A .tree .parent t ≡ s)) (Child (A .tree) s)
+    (λ t q. record { late = q .0; here = q .1; up = q .2 }) (λ t q. (q .late, q .here, q .up)) (m .entry s)
 
 module _ (A : Shape) (v : ValidShape A) where
   -- a step's parent is below 64

@@ -4,8 +4,7 @@ use mathlib.Core.Path.{_≡_}
 use native.Mathlib.Omega.{arith}
 use lib.ListN.{length-replicate, length-set, getD, length}
 use Rattle.tables.specs.Pattern.{shapeOf}
-use Rattle.tables.proofs.Gathered.{parent-few, Keyed, keyed-none, keyed-more}
-use Rattle.containment.proofs.Planned.{children-all}
+use Rattle.tables.proofs.Gathered.{parent-few, children-all, Keyed, keyed-none, keyed-more}
 use Rattle.containment.proofs.fitting.child_steps.Statement.{statement}
 use Rattle.containment.proofs.fitting.child_steps.Tie as tie
 
