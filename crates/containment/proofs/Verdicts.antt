@@ -14,8 +14,10 @@ use Rattle.tables.specs.declared.Refusal.{Refusal}
 use Rattle.tables.specs.declared.StepNo.{StepNo}
 use Rattle.tables.proofs.Trees.{from-here}
 use Rattle.containment.specs.Mapping.{BeginsIn, Maps, Contained}
-use Rattle.containment.specs.Containment.{Within}
-use Rattle.containment.specs.Verdict.{verdictChecks}
+use Rattle.containment.specs.Containment.{mappingArray, Within}
+use Rattle.containment.specs.Verdict.{verdictChecks, Decides}
+use Rattle.containment.specs.declared.Verdict.the-variants as verdict
+use Rattle.containment.specs.declared.VerdictAnswer.{VerdictAnswer}
 use Rattle.containment.specs.Feasible.{FitsIn, FitTable, Picks, Chosen}
 use Rattle.containment.proofs.Contained.{contained-iff}
 use Rattle.containment.proofs.Images.{pick-to, pick-none}
@@ -54,6 +56,11 @@ module _ (A B : Shape) (va : ValidShape A) (vb : ValidShape B) where
 module _ (A B : Pattern) where
   pub within-chosen : ValidPattern A → ValidPattern B → (m : List StepNo) → Chosen (shapeOf B) (shapeOf A) m → Within A B m
   within-chosen va vb m h = record { contained = chosen-contained (shapeOf A) (shapeOf B) va vb m h; by = h .by; least = h .least; array = h .array }
+
+  -- the answer "apart", with no mapping beside it
+  pub told-apart : (r : VerdictAnswer) → ValidPattern A → ValidPattern B → r .answer ≡ verdict.Apart → r .mapping ≡ mappingArray (λ t. 0) 0
+      → (Contained (shapeOf A) (shapeOf B) → ⊥) → Decides A B r
+  told-apart r va vb e m n = rw e ((va, (vb, tt)), n, m)
 
   -- a refusal of the first pattern
   pub first-refused : (r : Refusal) → ChecksPattern A (checked.Refused r) → Refuses (verdictChecks A B) r

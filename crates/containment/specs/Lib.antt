@@ -4,3 +4,4 @@ pub mod Witness
 pub mod Containment
 pub mod Verdict
 pub mod Feasible
+pub mod Lookup

@@ -3,7 +3,8 @@ use Prim.Native.Nat.{ℕ, zero, suc, _+_, _*_, _-_, _/_, _%_, _^_, _<_, _≤_, m
 use mathlib.Core.Path.{_≡_, _∙_, sym}
 use native.Mathlib.Omega.{arith}
 use native.Mathlib.Nat.{lt-of-lt-of-le, div-self, mul-div-right, div-eq-of-lt, pow-suc, pow-succ', div-div-eq-div-mul}
-use native.Mathlib.Decide.{decLt}
+use mathlib.Core.Logic.{_⊎_, inl, inr, ⊎-elim}
+use native.Mathlib.Decide.{ℕ-discrete, decLt}
 use lib.Bits.{bitOr, bitAnd, bitXor, or-shr, or-step, and-shr, and-step, xor-shr, xor-add-and}
 use lib.Pow.{pow-pos, pow-mono, pow-lt, pow-add, shr-shr, shl-exact, field, mod-mod-pow}
 use lib.Dec.{lit<}
@@ -123,6 +124,20 @@ lt-pow (suc x) = omega (arith, lt-pow x, pow-succ' 2 x)
 -- two numbers are equal where their bits are
 pub bits-same : (x y : ℕ) → ((s : ℕ) → bit x s ≡ bit y s) → x ≡ y
 bits-same x y h = bit-ext (x + y) x y (omega (arith, lt-pow (x + y))) (omega (arith, lt-pow (x + y))) (λ s l. h s)
+
+-- a number has a bit among its first k, or they are all 0
+bit-or-none : (x k : ℕ) → ((s : ℕ) × (bit x s ≡ 1)) ⊎ ((s : ℕ) → s < k → bit x s ≡ 0)
+bit-or-none x zero = inr (λ s l. absurd (omega arith))
+bit-or-none x (suc k) = ⊎-elim inl
+    (λ (f : (s : ℕ) → s < k → bit x s ≡ 0). elim (ℕ-discrete (bit x k) 1) [
+      | yes e ↦ inl (k, e)
+      | no n ↦ inr (λ s l. elim (ℕ-discrete s k) [ yes e ↦ (let h = bit-lt x k in rw e (omega arith)) | no d ↦ f s (omega arith) ])
+    ])
+    (bit-or-none x k)
+
+-- a number that is not 0 has a bit
+pub some-bit : (x : ℕ) → (x ≡ 0 → ⊥) → (s : ℕ) × (bit x s ≡ 1)
+some-bit x n = ⊎-elim (λ w. w) (λ f. absurd (n (bit-ext x x 0 (lt-pow x) (pow-pos x) (λ s l. f s l ∙ sym (bit-zero s))))) (bit-or-none x x)
 
 -- bit s alone, as a shift of 64 digits makes it
 pub shl-one : (s : ℕ) → s < 64 → 1 * 2 ^ s % 2 ^ 64 ≡ 2 ^ s

@@ -13,3 +13,4 @@ pub mod Agreement
 pub mod Outcomes
 pub mod Bits
 pub mod Marks
+pub mod Gathered

@@ -1,5 +1,5 @@
 -- Laws of numbers whose bits are marks: how marks are joined, one more is put, and only one number fits. Assumes nothing.
-use Prim.Native.Nat.{ℕ, zero, suc, _+_, _*_, _%_, _^_, _<_}
+use Prim.Native.Nat.{ℕ, zero, suc, _+_, _*_, _/_, _%_, _^_, _<_}
 use mathlib.Core.Path.{_≡_, sym, ap, _∙_, subst}
 use mathlib.Core.Logic.{_⊎_, inl, inr, ⊎-elim}
 use native.Mathlib.Omega.{arith}
@@ -9,7 +9,7 @@ use native.Mathlib.Nat.{pow-succ', zero-add, mod-lt}
 use lib.Bits.{bitOr, bitAnd, bitXor, or-shifted-r}
 use lib.Pow.{pow-pos}
 use Rattle.tables.specs.Bits.{bit, Marks}
-use Rattle.tables.proofs.Bits.{bit-zero, bit-lt, bit-or, bit-and, bit-without, bit-mod, bit-high, bit-pow, bit-other, bits-same}
+use Rattle.tables.proofs.Bits.{bit-zero, bit-lt, bit-or, bit-and, bit-without, bit-shr, bit-mod, bit-high, bit-pow, bit-other, bits-same}
 use Rattle.tables.proofs.Choice.{below-or-at}
 use Rattle.tables.proofs.Tests.{Tells}
 
@@ -49,6 +49,10 @@ marks-without x y P Q m n =
       put = λ s a. let o = bit-without x y s in let e = m .put s (a .0) in elim (bit-cases y s) [ inl h ↦ absurd (a .1 (n .only s h)) | inr h ↦ omega arith ];
       only = λ s e. let o = bit-without x y s in let hx = bit-lt x s in (m .only s (omega arith), λ q. let f = n .put s q in omega arith);
     }
+
+-- the marks of x, k places lower
+pub marks-shr : (x k : ℕ) (P : ℕ → Type 0) → Marks x P → Marks (x / 2 ^ k) (λ (s : ℕ). P (k + s))
+marks-shr x k P m = record { put = λ s a. bit-shr x k s ∙ m .put (k + s) a; only = λ s e. m .only (k + s) (sym (bit-shr x k s) ∙ e) }
 
 -- a number whose bits all stand below k has k digits
 pub bits-lt : (k x : ℕ) → ((s : ℕ) → bit x s ≡ 1 → s < k) → x < 2 ^ k

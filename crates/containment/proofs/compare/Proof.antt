@@ -3,7 +3,7 @@ use Rattle.tables.specs.Pattern.{shapeOf}
 use Rattle.containment.specs.Mapping.{BeginsIn}
 use Rattle.containment.specs.Feasible.{FitsIn, Picks}
 use Rattle.containment.proofs.Images.{pick-below}
-use Rattle.containment.proofs.Verdicts.{first-picked, not-contained, within-chosen}
+use Rattle.containment.proofs.Verdicts.{first-picked, not-contained, within-chosen, told-apart}
 use borrow.Author.Needs.{needs}
 use Rattle.containment.proofs.compare.Statement.{statement}
 use Rattle.containment.proofs.compare.Tie as tie
@@ -33,7 +33,7 @@ returns c =
     let g = c .before .before in
     let s = g .before .before .before .before .before in
     let u = c .unmapped .ensures in
-    rw (u .0) ((s .pre .0, (s .pre .1, tt)), not-contained _ _ (s .pre .0) (s .pre .1) _ (c .before .if1 .taken) (picks g), u .1)
+    told-apart (s .args .a) (s .args .t2) (c .unmapped .result) (s .pre .0) (s .pre .1) (u .0) (u .1) (not-contained _ _ (s .pre .0) (s .pre .1) _ (c .before .if1 .taken) (picks g))
 
 choose-requires : tie.Need-choose-requires
 choose-requires c κs =

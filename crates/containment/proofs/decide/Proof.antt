@@ -2,6 +2,7 @@
 use mathlib.Core.Path.{subst}
 use Rattle.tables.specs.Checks.{ChecksPattern}
 use Rattle.tables.specs.Pattern.{ValidPattern}
+use Rattle.containment.specs.Verdict.{Decides}
 use Rattle.containment.proofs.Verdicts.{first-refused, second-refused}
 use borrow.Author.Needs.{needs}
 use Rattle.containment.proofs.decide.Statement.{statement}
@@ -52,10 +53,15 @@ enum-told-2 c = search needs
 compare-requires : tie.Need-compare-requires
 compare-requires c κs =
     let k = c .before .before in
-    (valid (k .before), subst (ChecksPattern (k .before .before .before .before .args .b)) (c .enum-told2 .given .1) (k .check-pattern2 .ensures) .0 .0)
+    let v = valid (k .before) in
+    let w = subst (ChecksPattern (k .before .before .before .before .args .b)) (c .enum-told2 .given .1) (k .check-pattern2 .ensures) .0 .0 in
+    search (needs, v, w)
 
 returns-3 : tie.Need-returns-3
-returns-3 c = search needs
+returns-3 c =
+    let a = c .before .before .before .before .before .before .before .args in
+    let d : Decides (a .a) (a .b) (c .compare .result) = c .compare .ensures in
+    d
 
 pub decide-spec : {M : Type 1} → statement M
 decide-spec =

@@ -1,155 +1,72 @@
--- `containment::fitting::lift` meets its contract: the invariant is the state of the pass. Assumes nothing.
-use Prim.Native.Nat.{ℕ, suc, _-_, _<_, _≤_}
-use mathlib.Core.Path.{_≡_, refl, ap}
+-- `containment::fitting::lift` meets its contract: what the pass looks up is that of b. Assumes nothing.
 use native.Mathlib.Omega.{arith}
-use borrow.Author.Needs.{needs}
-use lib.Dec.{eqb}
-use lib.ListN.{length, getD, length-set}
 use Rattle.tables.specs.Pattern.{shapeOf}
-use Rattle.tables.proofs.Rules.{shape-ordered}
-use Rattle.tables.proofs.Trees.{parent-lt}
-use Rattle.tables.proofs.Tests.{tells-eq}
-use Rattle.containment.proofs.Lifted.{Lifted, lift-start, lift-fits, lift-turn, lift-root}
+use Rattle.containment.proofs.Planned.{grouped}
+use borrow.Author.Needs.{needs}
 use Rattle.containment.proofs.fitting.lift.Statement.{statement}
 use Rattle.containment.proofs.fitting.lift.Tie as tie
 
-abbrev Inv-loop : tie.InvT-loop
-Inv-loop b fit₀ a under₀ output i₀ fit under i = (1 ≤ i) × (i ≤ a .count) × (length fit ≡ 64) × (length under ≡ 64) × Lifted (shapeOf b) (shapeOf a) i fit under
+label-steps-requires : tie.Need-label-steps-requires
+label-steps-requires c κs = search needs
 
-abbrev μ-loop : tie.MeasureT-loop
-μ-loop b fit₀ a under₀ output i₀ fit under i = i
+child-steps-requires : tie.Need-child-steps-requires
+child-steps-requires c κs = search needs
 
-cast-output : tie.Need-cast-output Inv-loop μ-loop
-cast-output c = search needs
+next-steps-requires : tie.Need-next-steps-requires
+next-steps-requires c κs = search needs
 
-loop-holds : tie.Need-loop-holds Inv-loop μ-loop
-loop-holds c =
-    let v = c .pre .0 in
-    (omega (arith, v .0 .some), omega arith, ap length (c .pre .1), refl, rw (c .pre .1) (lift-start _ _ (v .1) (v .0)))
+group-requires : tie.Need-group-requires
+group-requires c κs = search needs
 
-sub-i : tie.Need-sub-i Inv-loop μ-loop
-sub-i c = omega arith
+axis-steps-requires : tie.Need-axis-steps-requires
+axis-steps-requires c κs = search needs
 
-mul-fits : tie.Need-mul-fits Inv-loop μ-loop
-mul-fits c = omega arith
+axis-steps-requires-2 : tie.Need-axis-steps-requires-2
+axis-steps-requires-2 c κs = search needs
 
-element-copy-out-fits : tie.Need-element-copy-out-fits Inv-loop μ-loop
-element-copy-out-fits c = omega arith
+cast-one-bit : tie.Need-cast-one-bit
+cast-one-bit c = search needs
 
-mul-fits-2 : tie.Need-mul-fits-2 Inv-loop μ-loop
-mul-fits-2 c = omega arith
+one-bit-requires : tie.Need-one-bit-requires
+one-bit-requires c κs = search needs
 
-element-copy-out-fits-2 : tie.Need-element-copy-out-fits-2 Inv-loop μ-loop
-element-copy-out-fits-2 c = omega arith
+raise-requires : tie.Need-raise-requires
+raise-requires c κs =
+    let g = c .before .before .before .before .before .before .before .before .before .before in
+    let s = g .before .before .before .before .before .before .before .before .before .before .before in
+    (s .pre .0, (omega (arith, g .group .ensures .few, s .pre .1 .0 .few), s .pre .1 .1))
 
-mul-fits-3 : tie.Need-mul-fits-3 Inv-loop μ-loop
-mul-fits-3 c = omega arith
-
-array-read-fits : tie.Need-array-read-fits Inv-loop μ-loop
-array-read-fits c = omega arith
-
-fits-requires : tie.Need-fits-requires Inv-loop μ-loop
-fits-requires c κs = c .before .before .before .before .pre .0 .1
-
-element-copy-out-mask-for : tie.Need-element-copy-out-mask-for Inv-loop μ-loop
-element-copy-out-mask-for c = omega arith
-
-mask-for-requires : tie.Need-mask-for-requires Inv-loop μ-loop
-mask-for-requires c κs = tt
-
-element-copy-out-hand-up : tie.Need-element-copy-out-hand-up Inv-loop μ-loop
-element-copy-out-hand-up c = omega arith
-
--- a step's parent comes before it
-up : (c : tie.After-hand-up-arg2 Inv-loop μ-loop)
-    → getD (c .before .before .before .before .before .before .before .before .before .before .args .t1 .parent) (c .before .before .before .before .before .before .before .before .before .loop .i - 1) 0
-    < c .before .before .before .before .before .before .before .before .before .loop .i - 1
-up c =
-    let m = c .before .before .before .before .before .before .before .before .before in
-    parent-lt (shape-ordered (m .before .pre .0 .0)) (m .loop .i - 1) (omega arith) (omega arith)
-
-cast-hand-up : tie.Need-cast-hand-up Inv-loop μ-loop
-cast-hand-up c = record { fits = omega (arith, up c) }
-
-hand-up-requires : tie.Need-hand-up-requires Inv-loop μ-loop
-hand-up-requires c κs = (up c, omega (arith, c .before .before .before .before .before .before .before .before .before .before .pre .0 .0 .few))
-
-loop-less : tie.Need-loop-less Inv-loop μ-loop
-loop-less c = omega arith
-
-loop-again : tie.Need-loop-again Inv-loop μ-loop
-loop-again c =
-    let m = c .before .before .before .before .before .before .before .before .before .before in
-    let s = m .before in
-    let v = s .pre .0 in
-    let k : 1 < m .loop .i = c .before .before .before .before .before .before .before .before .before .loop-test .taken in
-    let i : ℕ = m .loop .i - 1 in
-    let l : i < s .args .t1 .count = omega arith in
-    let z : suc i ≡ m .loop .i = omega arith in
-    let u : Lifted (shapeOf (s .args .b)) (shapeOf (s .args .t1)) (suc i) (m .loop .fit) (m .loop .under) = rw z (m .loop .inv .4) in
-    let h = c .hand-up .ensures in
-    let t = tells-eq i (s .args .t1 .output .0) in (
-      omega arith,
-      omega arith,
-      rw (h .0) (simp length-set (m .loop .inv .2)),
-      rw (h .1) (simp length-set (m .loop .inv .3)),
-      rw (h .0, h .1, c .before .before .before .before .mask-for .ensures)
-          (lift-turn _ _ (v .1) (v .0) i _ _ _ _ (record { late = omega arith; here = l; up = refl }) u
-          (lift-fits _ _ (v .1) (v .0) i _ _ (eqb i (s .args .t1 .output .0)) l (t .says, t .test) u _ (c .before .before .before .before .before .before .fits2 .ensures))
-          (omega (arith, v .0 .few, m .loop .inv .2)) (omega (arith, v .0 .few, m .loop .inv .3))),
-    )
-
-element-copy-out-fits-3 : tie.Need-element-copy-out-fits-3 Inv-loop μ-loop
-element-copy-out-fits-3 c = omega arith
-
-element-copy-out-fits-4 : tie.Need-element-copy-out-fits-4 Inv-loop μ-loop
-element-copy-out-fits-4 c = omega arith
-
-array-read-fits-2 : tie.Need-array-read-fits-2 Inv-loop μ-loop
-array-read-fits-2 c = omega arith
-
-fits-requires-2 : tie.Need-fits-requires-2 Inv-loop μ-loop
-fits-requires-2 c κs = c .before .before .before .before .pre .0 .1
-
-element-write-fit : tie.Need-element-write-fit Inv-loop μ-loop
-element-write-fit c = omega arith
-
-returns : tie.Need-returns Inv-loop μ-loop
+returns : tie.Need-returns
 returns c =
-    let m = c .before .before .before .before in
-    let s = m .before in
-    let v = s .pre .0 in
-    let e : m .loop .i ≡ 1 = omega arith in
-    let u : Lifted (shapeOf (s .args .b)) (shapeOf (s .args .t1)) 1 (m .loop .fit) (m .loop .under) = rw e at (m .loop .inv .4) in
-    let t = tells-eq 0 (s .args .t1 .output .0) in
-    lift-root _ _ (v .1) (v .0) _ _ _ u (lift-fits _ _ (v .1) (v .0) 0 _ _ (eqb 0 (s .args .t1 .output .0)) (v .0 .some) (t .says, t .test) u _ (c .fits3 .ensures)) (omega (arith, m .loop .inv .2))
+    let o = c .before .before .before .before .before .before .before in
+    let d = o .before .before in
+    let g = d .before .before in
+    let n = g .before .before .before .before in
+    let k = n .before in
+    let l = k .before .before in
+    let s = l .before .before .before .before in
+    let v = s .pre .1 .0 in
+    c .raise .ensures (shapeOf (s .args .b)) (l .label-steps .ensures)
+    (record {
+      valid = v;
+      child = d .before .axis-steps .ensures;
+      descendant = d .axis-steps2 .ensures;
+      next = n .next-steps .ensures;
+      output = o .one-bit .ensures;
+      groups = grouped _ v _ _ (k .child-steps .ensures) (n .next-steps .ensures) _ _ _ (g .group .ensures);
+    })
 
 pub lift-spec : {M : Type 1} → statement M
 lift-spec =
     tie.close
     (tie.spec
-    Inv-loop
-    μ-loop
-    cast-output
-    loop-holds
-    sub-i
-    mul-fits
-    element-copy-out-fits
-    mul-fits-2
-    element-copy-out-fits-2
-    mul-fits-3
-    array-read-fits
-    fits-requires
-    element-copy-out-mask-for
-    mask-for-requires
-    element-copy-out-hand-up
-    cast-hand-up
-    hand-up-requires
-    loop-less
-    loop-again
-    element-copy-out-fits-3
-    element-copy-out-fits-4
-    array-read-fits-2
-    fits-requires-2
-    element-write-fit
+    label-steps-requires
+    child-steps-requires
+    next-steps-requires
+    group-requires
+    axis-steps-requires
+    axis-steps-requires-2
+    cast-one-bit
+    one-bit-requires
+    raise-requires
     returns)

@@ -1,0 +1,70 @@
+-- `containment::fitting::reached` meets its contract. The loop's invariant: `x` has what the entries before k give. Assumes nothing.
+use Prim.Native.Nat.{_-_, _≤_}
+use mathlib.Core.Path.{_≡_}
+use mathlib.Core.Logic.{⊎-elim}
+use native.Mathlib.Omega.{arith}
+use denote.Ref.{now}
+use Rattle.tables.specs.Bits.{Marks}
+use Rattle.containment.specs.Lookup.{Reached}
+use Rattle.containment.proofs.Planned.{reached-none, reached-skip, reached-more}
+use Rattle.containment.proofs.fitting.reached.Statement.{statement}
+use Rattle.containment.proofs.fitting.reached.Tie as tie
+
+abbrev Inv-loop : tie.InvT-loop
+Inv-loop who kids n m x₀ k₀ x k = (k ≤ n) × Marks x (Reached who kids m k)
+
+abbrev μ-loop : tie.MeasureT-loop
+μ-loop who kids n m x₀ k₀ x k = n - k
+
+loop-holds : tie.Need-loop-holds Inv-loop μ-loop
+loop-holds c = (omega arith, reached-none (now (c .args .who)) (now (c .args .kids)) (c .args .m))
+
+mul-if1 : tie.Need-mul-if1 Inv-loop μ-loop
+mul-if1 c = omega arith
+
+element-copy-out-if1 : tie.Need-element-copy-out-if1 Inv-loop μ-loop
+element-copy-out-if1 c = omega arith
+
+mul-x : tie.Need-mul-x Inv-loop μ-loop
+mul-x c = omega arith
+
+element-copy-out-x : tie.Need-element-copy-out-x Inv-loop μ-loop
+element-copy-out-x c = omega arith
+
+add-k : tie.Need-add-k Inv-loop μ-loop
+add-k c = omega arith
+
+loop-less : tie.Need-loop-less Inv-loop μ-loop
+loop-less c = omega arith
+
+loop-again : tie.Need-loop-again Inv-loop μ-loop
+loop-again c =
+    let m = c .before .before .before in
+    let s = m .before .args in (
+      omega arith,
+      ⊎-elim
+          (λ w. rw (w .2) (reached-more (now (s .who)) (now (s .kids)) (s .m) (m .loop .x) (m .loop .k) (w .0 .taken) (m .loop .inv .1)))
+          (λ w. rw (w .1) (reached-skip (now (s .who)) (now (s .kids)) (s .m) (m .loop .x) (m .loop .k) (w .0 .left) (m .loop .inv .1)))
+          (c .if1 .came),
+    )
+
+returns : tie.Need-returns Inv-loop μ-loop
+returns c =
+    let e : c .before .loop .k ≡ c .before .before .args .n = omega arith in
+    rw e at (c .before .loop .inv .1)
+
+pub reached-spec : {M : Type 1} → statement M
+reached-spec =
+    tie.close
+    (tie.spec
+    Inv-loop
+    μ-loop
+    loop-holds
+    mul-if1
+    element-copy-out-if1
+    mul-x
+    element-copy-out-x
+    add-k
+    loop-less
+    loop-again
+    returns)
