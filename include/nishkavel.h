@@ -3,7 +3,7 @@
  * Documents and patterns are handed over as packets, slices of bytes. Every function answers with a number: 0 or more is an answer, a negative number is minus a
  * refusal of enum nishkavel_refusal. A refusal changes no byte that was lent. No function keeps state, allocates, or reads or writes outside the slices that
  * it is handed, so any of them may be called from many threads at once, on rooms that do not overlap. A pointer may be NULL where its length is 0. A room must not overlap what
- * is read in the same call. A call uses up to 64 KiB of stack.
+ * is read in the same call. A call uses up to 96 KiB of stack.
  *
  * A document packet: 1, the length of what follows in two bytes, then for each node its parent and its label in two bytes each. Node 0 has parent 65535; every
  * later node hangs on the node before it or on an ancestor of that one. 1 to 2,048 nodes.

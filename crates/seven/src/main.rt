@@ -26,24 +26,9 @@ fn say(words: &[u8]) {
     io::write_all(1, words);
 }
 
-// The number of a refusal.
-fn number(r: Refusal) -> u64 {
-    match r {
-        Refusal::Version => 1,
-        Refusal::Length => 2,
-        Refusal::BadPattern => 3,
-        Refusal::BadDocument => 4,
-        Refusal::Room => 5,
-        Refusal::Start => 6,
-        Refusal::OtherLabel => 7,
-        Refusal::TooLarge => 8,
-        Refusal::NoLabel => 9,
-    }
-}
-
 fn say_refused(r: Refusal) {
     say(b"refused ");
-    io::print_decimal(1, number(r));
+    io::print_decimal(1, wide_byte(tables::refusal_number(r)));
     say(b"\n");
 }
 

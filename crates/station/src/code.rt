@@ -2,27 +2,8 @@
 ghost use Prim.Native.Nat.{_<_};
 ghost use mathlib.Core.Path.{_≡_};
 ghost use lib.IntN.{pos, negℤ};
-ghost use Rattle.tables.specs.Refusal.{number};
 ghost use Rattle.station.specs.Code.{codeOf, Small};
 use tables::Counted;
-use tables::Refusal;
-
-// The number of a refusal.
-fn refusal_number(r: Refusal) -> u8
-    ensures { λ k. ⌜ k ≡ number r ⌝ }
-{
-    match r {
-        Refusal::Version => 1,
-        Refusal::Length => 2,
-        Refusal::BadPattern => 3,
-        Refusal::BadDocument => 4,
-        Refusal::Room => 5,
-        Refusal::Start => 6,
-        Refusal::OtherLabel => 7,
-        Refusal::TooLarge => 8,
-        Refusal::NoLabel => 9,
-    }
-}
 
 // A small count as it is.
 fn plus(n: usize) -> i64
@@ -46,6 +27,6 @@ pub(crate) fn number_of(a: Counted) -> i64
 {
     match a {
         Counted::Count(n) => plus(n),
-        Counted::Refused(r) => minus(refusal_number(r)),
+        Counted::Refused(r) => minus(tables::refusal_number(r)),
     }
 }

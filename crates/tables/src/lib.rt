@@ -8,6 +8,7 @@ ghost use lib.ListN.{length, getD};
 ghost use lib.Dec.{T};
 ghost use Rattle.tables.specs.Tree.{Hangs};
 ghost use Rattle.tables.specs.Pattern.{zeroPattern};
+ghost use Rattle.tables.specs.Refusal.{number};
 ghost use Rattle.tables.specs.Checks.{ChecksDocument, ChecksPattern};
 
 // The number of a step in a pattern.
@@ -25,7 +26,7 @@ pub struct Pattern {
     pub output: StepNo,
 }
 
-// The reasons for which a call refuses. `number` of specs/Refusal.antt gives each its number.
+// The reasons for which a call refuses. `number` of specs/Refusal.antt gives each its number, `refusal_number` the same in code.
 pub enum Refusal {
     Version,
     Length,
@@ -48,6 +49,23 @@ pub enum Checked {
 pub enum Counted {
     Count(usize),
     Refused(Refusal),
+}
+
+// The number of a refusal.
+pub fn refusal_number(r: Refusal) -> u8
+    ensures { λ k. ⌜ k ≡ number r ⌝ }
+{
+    match r {
+        Refusal::Version => 1,
+        Refusal::Length => 2,
+        Refusal::BadPattern => 3,
+        Refusal::BadDocument => 4,
+        Refusal::Room => 5,
+        Refusal::Start => 6,
+        Refusal::OtherLabel => 7,
+        Refusal::TooLarge => 8,
+        Refusal::NoLabel => 9,
+    }
 }
 
 // The pattern beside a refusal or "none": nothing but zeros.
