@@ -5,12 +5,13 @@
 --   packetDocument  the document that bytes are read as
 --   DocumentSized   the length field is right
 --   documentChecks  what reading checks, in order
+--   documentRules   the same but for the room
 --   ReadsDocument   what reading answers and leaves in the two lists
 -- Assumes nothing.
 use Prim.Native.Nat.{ℕ, _+_, _*_, _/_, _≤_}
 use mathlib.Core.Path.{_≡_}
 use mathlib.Core.List.{List, [], _∷_, _++_}
-use lib.ListN.{length, getD, drop}
+use lib.ListN.{length, getD, take, drop}
 use Rattle.tables.specs.Column.{blocks, column}
 use Rattle.tables.specs.Document.{Document, nodeCount, ValidDocument}
 use Rattle.tables.specs.Refusal.{Check, CountedBy}
@@ -50,6 +51,10 @@ documentChecks bs a b =
     record { asks = 3 ≤ length bs; gives = 2 } ∷ record { asks = getD bs 0 0 ≡ 1; gives = 1 }
     ∷ record { asks = (n : ℕ) × DocumentSized bs n; gives = 2 } ∷ record { asks = ValidDocument (packetDocument bs); gives = 4 }
     ∷ record { asks = (nodesIn bs ≤ a) × (nodesIn bs ≤ b); gives = 5 } ∷ []
+
+-- the same but for the room
+abbrev pub documentRules : List ℕ → List Check
+documentRules bs = take 4 (documentChecks bs 0 0)
 
 -- reading puts the nodes at the front of both lists and counts them; a refusal leaves both lists as they were
 abbrev pub ReadsDocument : List ℕ → List ℕ → List ℕ → Counted → List ℕ → List ℕ → Type 0

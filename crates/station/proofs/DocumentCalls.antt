@@ -20,13 +20,13 @@ use Rattle.tables.specs.declared.Counted.the-variants as counted
 use Rattle.tables.proofs.Columns.{column-length, blocks-ext}
 use Rattle.tables.proofs.Refusals.{refuses-not-passes}
 use Rattle.packets.specs.PatternPacket.{patternChecks, ReadsPattern}
-use Rattle.packets.specs.DocumentPacket.{nodesIn, packetDocument, documentChecks, ReadsDocument}
+use Rattle.packets.specs.DocumentPacket.{nodesIn, packetDocument, documentChecks, ReadsDocument, documentRules}
 use Rattle.packets.specs.declared.PatternRead.{PatternRead}
 use Rattle.placing.specs.Answer.{Begins, Started, In, StartList}
 use Rattle.answers.specs.Answers.{Found, HasRoom, answerChecks, startedChecks, FindsAnswers, FindsStarted}
 use Rattle.station.specs.Code.{Small}
 use Rattle.station.specs.Patterns.{packetPattern}
-use Rattle.station.specs.Documents.{halfBytes, documentRules, firstOf, ReadsAsked, Answered, roomCheck, AnswersPackets}
+use Rattle.station.specs.Documents.{halfBytes, firstOf, ReadsAsked, Answered, roomCheck, AnswersPackets}
 use Rattle.station.proofs.Checking.{refuses-front, refuses-rest, passes-both}
 use Rattle.station.proofs.PatternCalls.{packet-valid}
 use Rattle.station.proofs.ListCalls.{ascending-few, answers-few}

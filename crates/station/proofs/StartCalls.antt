@@ -18,12 +18,12 @@ use Rattle.tables.specs.declared.Counted.the-variants as counted
 use Rattle.tables.proofs.Columns.{column-length}
 use Rattle.packets.specs.Bytes.{half}
 use Rattle.packets.specs.PatternPacket.{patternChecks}
-use Rattle.packets.specs.DocumentPacket.{nodesIn, packetDocument}
+use Rattle.packets.specs.DocumentPacket.{nodesIn, packetDocument, documentRules}
 use Rattle.placing.specs.Answer.{In, StartList}
 use Rattle.answers.specs.Answers.{HasRoom, startedChecks, FindsStarted}
 use Rattle.station.specs.Code.{Small}
 use Rattle.station.specs.Patterns.{packetPattern}
-use Rattle.station.specs.Documents.{halfBytes, unpacked, documentRules, ReadsAsked, roomCheck, startCheck, StartsPackets}
+use Rattle.station.specs.Documents.{halfBytes, unpacked, ReadsAsked, roomCheck, startCheck, StartsPackets}
 use Rattle.station.proofs.Checking.{refuses-front, refuses-rest, passes-both}
 use Rattle.station.proofs.PatternCalls.{packet-valid}
 use Rattle.station.proofs.ListCalls.{ascending-few, answers-few}

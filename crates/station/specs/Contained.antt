@@ -2,6 +2,7 @@
 --   ShownWithin       a contained pair: the smallest mapping
 --   ShownApart        a pair apart: the witness as a packet, and its answer node
 --   Shown             the room by the answer, 1 or 0
+--   lastChecks        what the call checks past the packets
 --   containsChecks    what the call checks, in order
 --   ContainsPackets   what the call answers
 -- Assumes nothing.
@@ -43,10 +44,11 @@ Shown A B room₀ zero room = ShownApart A B room₀ room
 Shown A B room₀ (suc zero) room = ShownWithin A B room₀ room
 Shown A B room₀ (suc (suc c)) room = ⊥
 
--- the packet of A, the packet of B, a label for the witness, 517 bytes of room
+-- past the packets: a label for the witness, and 517 bytes of room
 abbrev pub lastChecks : Pattern → Pattern → ℕ → List Check
 lastChecks A B m = record { asks = (l : ℕ) × Fresh (shapeOf A) (shapeOf B) l; gives = 9 } ∷ record { asks = 517 ≤ m; gives = 5 } ∷ []
 
+-- the packet of A, the packet of B, and those
 abbrev pub containsChecks : List ℕ → List ℕ → ℕ → List Check
 containsChecks xs ys m = (patternChecks xs ++ patternChecks ys) ++ lastChecks (packetPattern xs) (packetPattern ys) m
 

@@ -2,19 +2,20 @@
 --   halfBytes       the two bytes of an entry of a list
 --   packed          a list in bytes
 --   unpacked        the list that bytes are read as
---   documentRules   the checks of a document packet, but for the room
 --   firstOf         the first refusal of two answers
 --   ReadsAsked      what reading both packets gives
 --   Answered        what a call that answers leaves in the room
+--   roomCheck       the room for every node
 --   packetChecks    what the call checks, in order
 --   AnswersPackets  what the call answers
+--   startCheck      the axis of step 0 and the start nodes
 --   startChecks     what the started form checks, in order
 --   StartsPackets   what the started form answers
 -- Assumes nothing.
 use Prim.Native.Nat.{ℕ, _*_, _/_, _%_, _≤_}
 use mathlib.Core.Path.{_≡_}
 use mathlib.Core.List.{List, [], _∷_, _++_}
-use lib.ListN.{length, getD, take, drop}
+use lib.ListN.{length, getD, drop}
 use Rattle.tables.specs.Column.{blocks, column}
 use Rattle.tables.specs.Document.{Document}
 use Rattle.tables.specs.Pattern.{Shape, shapeOf}
@@ -26,7 +27,7 @@ use Rattle.tables.specs.declared.Counted.{Counted}
 use Rattle.tables.specs.declared.Counted.the-variants as counted
 use Rattle.packets.specs.Bytes.{high, low, half}
 use Rattle.packets.specs.PatternPacket.{patternChecks}
-use Rattle.packets.specs.DocumentPacket.{nodesIn, packetDocument, documentChecks}
+use Rattle.packets.specs.DocumentPacket.{nodesIn, packetDocument, documentRules}
 use Rattle.placing.specs.Answer.{Begins, Started, In, Lists, StartList}
 use Rattle.station.specs.Patterns.{packetPattern}
 
@@ -41,10 +42,6 @@ packed xs = blocks (halfBytes xs) (length xs)
 -- the list that bytes are read as
 unfoldable pub unpacked : List ℕ → List ℕ
 unpacked bs = column (λ k. half bs (2 * k)) (length bs / 2)
-
--- the checks of a document packet, but for the room
-abbrev pub documentRules : List ℕ → List Check
-documentRules bs = take 4 (documentChecks bs 0 0)
 
 -- the first refusal of two answers, if there is one; else the count
 abbrev pub firstOf : Counted → Checked → Counted
@@ -77,11 +74,12 @@ pub record AnswersPackets (ds ps room₀ : List ℕ) (r : Counted) (room : List 
   pub says : CountedBy (packetChecks ds ps (length room₀)) r
       (λ c. Answered (Begins (shapeOf (packetPattern ps))) (shapeOf (packetPattern ps)) (packetDocument ds) room₀ c room) (room ≡ room₀)
 
--- the started form checks the start before the room: step 0 has axis child, and the start bytes are a start list of the document
+-- step 0 has axis child, and the start bytes are a start list of the document
 abbrev pub startCheck : List ℕ → List ℕ → List ℕ → List Check
 startCheck ds ps ss =
     record { asks = (shapeOf (packetPattern ps) .axis 0 ≡ 0) × (length ss % 2 ≡ 0) × StartList (packetDocument ds) (unpacked ss); gives = 6 } ∷ []
 
+-- the started form checks the start before the room
 abbrev pub startChecks : List ℕ → List ℕ → List ℕ → ℕ → List Check
 startChecks ds ps ss m = (documentRules ds ++ patternChecks ps) ++ startCheck ds ps ss ++ roomCheck ds m
 

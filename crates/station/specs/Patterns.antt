@@ -1,5 +1,8 @@
 -- The calls on patterns, as packets in and a packet out: what they check, answer and leave in the room (docs/RULES.md, "From C").
 --   packetPattern    the pattern that a packet is read as
+--   lengthOf         the length of a pattern's packet
+--   Put              a packet at the front of the room
+--   bothOf           the first refusal of two answers
 --   ReadsTwo         what reading two packets answers
 --   joinsChecks      what joining two packets checks, in order
 --   JoinsPackets     what it answers
@@ -11,7 +14,6 @@
 -- Assumes nothing.
 use Prim.Native.Nat.{ℕ, zero, suc, _+_, _≤_}
 use mathlib.Core.Path.{_≡_}
-use mathlib.Core.Logic.{_⊎_}
 use mathlib.Core.List.{List, [], _∷_, _++_}
 use lib.ListN.{length, drop}
 use Rattle.tables.specs.Pattern.{shapeOf, patternOf}
@@ -29,7 +31,7 @@ use Rattle.tables.specs.declared.Checked.the-variants as checked
 abbrev pub packetPattern : List ℕ → Pattern
 packetPattern bs = patternOf (packetShape bs)
 
--- a packet's length
+-- the length of a pattern's packet
 abbrev pub lengthOf : Pattern → ℕ
 lengthOf p = patternLength (p .count) + 3
 
