@@ -1,0 +1,149 @@
+-- `asking::text::put_number` meets its contract: it calls itself for the digits before the last, and the number falls. Assumes nothing.
+use native.Mathlib.Omega.{arith}
+use lib.ListN.{length}
+use mathlib.Core.Path.{ap}
+use borrow.Author.Needs.{needs}
+use Rattle.asking.proofs.Decimal.{decimal-small, decimal-large, decimal-large-length}
+use Rattle.asking.proofs.Writing.{wrote-then}
+use Prim.Native.Nat.{ℕ, _/_, _<_}
+use borrow.Fn.Kinds.{In}
+use borrow.Fn.PlainCycle.{Measures, is, falls, and}
+use Rattle.asking.proofs.text.put_number.Reads as put-number
+use Rattle.asking.proofs.text.put_number.Kinds as put-number-kinds
+use Rattle.asking.proofs.text.+put_number.Lts-put_number as put-number-lts
+use Rattle.asking.proofs.text.put_byte.Reads as put-byte-reads
+use Rattle.asking.proofs.text.+put_number.{statement}
+use Rattle.asking.proofs.text.+put_number.Tie.{close}
+
+abbrev μ-put-number : Measures 1 put-number-kinds.ps ℕ
+μ-put-number κs a = a .1 .1 .0
+
+-- what the function is given at the measure t, and what a call of it asks below t
+abbrev put-number-at : ℕ → In 1 put-number-kinds.ps
+put-number-at t =
+    and 1 put-number-kinds.ps (is 1 put-number-kinds.ps μ-put-number t) put-number.Pre
+
+abbrev put-number-below : ℕ → In 1 put-number-kinds.ps
+put-number-below t =
+    and 1 put-number-kinds.ps (falls 1 put-number-kinds.ps _<_ μ-put-number t) put-number.Pre
+
+put-number-cast-put-byte : (t : ℕ) → put-number-lts.Need-cast-put-byte (
+  put-byte-reads.Asked,
+  put-byte-reads.Learnt,
+  put-number-below t,
+  put-number.Post,
+) (put-number-at t) put-number.Post
+put-number-cast-put-byte t c = omega arith
+
+put-number-add-put-byte : (t : ℕ) → put-number-lts.Need-add-put-byte (
+  put-byte-reads.Asked,
+  put-byte-reads.Learnt,
+  put-number-below t,
+  put-number.Post,
+) (put-number-at t) put-number.Post
+put-number-add-put-byte t c = omega arith
+
+put-number-put-byte-requires : (t : ℕ) → put-number-lts.Need-put-byte-requires (
+  put-byte-reads.Asked,
+  put-byte-reads.Learnt,
+  put-number-below t,
+  put-number.Post,
+) (put-number-at t) put-number.Post
+put-number-put-byte-requires t c κs =
+    let x = c .before .before .before in
+    omega (arith, x .pre .1, ap length (decimal-small (x .args .n) (omega arith)))
+
+put-number-put-number-requires : (t : ℕ) → put-number-lts.Need-put-number-requires (
+  put-byte-reads.Asked,
+  put-byte-reads.Learnt,
+  put-number-below t,
+  put-number.Post,
+) (put-number-at t) put-number.Post
+put-number-put-number-requires t c κs =
+    let x = c .before .before .before in
+    (omega (arith, x .pre .0), omega (arith, x .pre .1, decimal-large-length (x .args .n) (omega arith)))
+
+put-number-cast-put-byte-2 : (t : ℕ) → put-number-lts.Need-cast-put-byte-2 (
+  put-byte-reads.Asked,
+  put-byte-reads.Learnt,
+  put-number-below t,
+  put-number.Post,
+) (put-number-at t) put-number.Post
+put-number-cast-put-byte-2 t c = omega arith
+
+put-number-add-put-byte-2 : (t : ℕ) → put-number-lts.Need-add-put-byte-2 (
+  put-byte-reads.Asked,
+  put-byte-reads.Learnt,
+  put-number-below t,
+  put-number.Post,
+) (put-number-at t) put-number.Post
+put-number-add-put-byte-2 t c = omega arith
+
+put-number-put-byte-requires-2 : (t : ℕ) → put-number-lts.Need-put-byte-requires-2 (
+  put-byte-reads.Asked,
+  put-byte-reads.Learnt,
+  put-number-below t,
+  put-number.Post,
+) (put-number-at t) put-number.Post
+put-number-put-byte-requires-2 t c κs =
+    let y = c .before .before .before in
+    let x = y .before .before .before .before in
+    omega (arith, x .pre .1, y .put-number .ensures .end, y .put-number .kept .0, decimal-large-length (x .args .n) (omega arith))
+
+put-number-same-length : (t : ℕ) → put-number-lts.Need-same-length (
+  put-byte-reads.Asked,
+  put-byte-reads.Learnt,
+  put-number-below t,
+  put-number.Post,
+) (put-number-at t) put-number.Post
+put-number-same-length t c = search needs
+
+put-number-returns : (t : ℕ) → put-number-lts.Need-returns (
+  put-byte-reads.Asked,
+  put-byte-reads.Learnt,
+  put-number-below t,
+  put-number.Post,
+) (put-number-at t) put-number.Post
+put-number-returns t c =
+    let x = c .before .before .before .before .before .before in
+    rw (decimal-small (x .args .n) (omega arith)) (c .before .before .put-byte .ensures)
+
+put-number-same-length-2 : (t : ℕ) → put-number-lts.Need-same-length-2 (
+  put-byte-reads.Asked,
+  put-byte-reads.Learnt,
+  put-number-below t,
+  put-number.Post,
+) (put-number-at t) put-number.Post
+put-number-same-length-2 t c = search needs
+
+put-number-returns-2 : (t : ℕ) → put-number-lts.Need-returns-2 (
+  put-byte-reads.Asked,
+  put-byte-reads.Learnt,
+  put-number-below t,
+  put-number.Post,
+) (put-number-at t) put-number.Post
+put-number-returns-2 t c =
+    let y = c .before .before .before .before .before .before in
+    let x = y .before .before .before .before in
+    rw (decimal-large (x .args .n) (omega arith)) (wrote-then (omega (arith, x .pre .1)) (y .put-number .ensures) (c .before .before .put-byte2 .ensures))
+
+pub +put-number-spec : {M : Type 1} → statement M
++put-number-spec = close μ-put-number λ t. put-number-lts.spec (
+  put-byte-reads.Asked,
+  put-byte-reads.Learnt,
+  put-number-below t,
+  put-number.Post,
+)
+    (put-number-at t)
+    put-number.Post
+    (put-number-cast-put-byte t)
+    (put-number-add-put-byte t)
+    (put-number-put-byte-requires t)
+    (put-number-put-number-requires t)
+    (put-number-cast-put-byte-2 t)
+    (put-number-add-put-byte-2 t)
+    (put-number-put-byte-requires-2 t)
+    (put-number-same-length t)
+    (put-number-returns t)
+    (put-number-same-length-2 t)
+    (put-number-returns-2 t)

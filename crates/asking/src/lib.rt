@@ -1,0 +1,2 @@
+// What the program `ask` prints for each input (docs/RULES.md, "The program ask").
+mod text;
