@@ -3,3 +3,4 @@ pub mod Text
 pub mod Parts
 pub mod Replies
 pub mod Writing
+pub mod Answering
