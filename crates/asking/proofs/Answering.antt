@@ -10,6 +10,8 @@ use Rattle.tables.specs.Document.{Document, nodeCount, ValidDocument}
 use Rattle.tables.specs.Pattern.{Shape, shapeOf, zeroPattern, ValidPattern}
 use Rattle.tables.specs.Refusal.{number, Refuses}
 use Rattle.tables.specs.declared.Pattern.{Pattern}
+use Rattle.tables.specs.declared.Counted.{Counted}
+use Rattle.tables.specs.declared.Counted.the-variants.{Count}
 use Rattle.tables.specs.declared.Refusal.{Refusal}
 use Rattle.tables.specs.declared.Refusal.the-variants.{Version, Length, BadPattern, BadDocument, Room, Start, OtherLabel, TooLarge, NoLabel}
 use Rattle.tables.proofs.Refusals.{number-unique}
@@ -18,7 +20,7 @@ use Rattle.answers.specs.Answers.{Found}
 use Rattle.rewriting.specs.Rewriting.{rewritingChecks, AnswersRewriting}
 use Rattle.rewriting.specs.declared.Rewriting.the-variants as rewriting
 use Rattle.asking.specs.Text.{line, viewWord, queryWord}
-use Rattle.asking.specs.Replies.{Replies, Printed}
+use Rattle.asking.specs.Replies.{Replies, Printed, ReplyOf}
 use Rattle.asking.specs.Writing.{Wrote}
 use Rattle.asking.specs.Answering.{Finds, WroteThird, WroteAnswers}
 use Rattle.asking.proofs.Writing.{wrote-then, line-short}
@@ -78,6 +80,12 @@ refused-large Q U p r q u h =
 -- a text at the front of the buffer
 pub printed : {bs text before : List ℕ} {r : ℕ} {after : List ℕ} → Replies bs text → Wrote before 0 text r after → Printed bs before r after
 printed {bs} {text} h w = record { text = text; replies = h; count = omega (arith, w .end); written = w .is }
+
+-- what is counted lies within the buffer
+pub reply-fits : (bs before : List ℕ) (r : Counted) (c : ℕ) (after : List ℕ) → r ≡ Count c → ReplyOf bs before r after → c ≤ length after
+reply-fits bs before r c after e h =
+    let p = subst (λ z. ReplyOf bs before z after) e h .1 in
+    omega (arith, p .count, ap length (p .written), length-append (p .text) (drop c before))
 
 -- the three lines, one after another
 pub answers-put : {d : Document} {Q U : Pattern} {before : List ℕ} {xs ys : List ℕ} {i j r : ℕ} {a b after : List ℕ}
