@@ -4,3 +4,5 @@ pub mod Writing
 pub mod Parts
 pub mod Answering
 pub mod Replying
+pub mod Unique
+pub mod Shown
