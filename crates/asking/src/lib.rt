@@ -158,9 +158,11 @@ fn put_answers(q: Pattern, v: Pattern, parents: &[u16], labels: &[u16], out: &mu
     let mut queries = [0u16; 2048];
     let c = find(v, parents, labels, &mut views);
     let e = find(q, parents, labels, &mut queries);
-    let second = text::put_line(out, 0, b"view", &views[..c]);
-    let third = text::put_line(out, second, b"query", &queries[..e]);
-    put_third(q, v, parents, labels, &views[..c], third, out)
+    let seen = &views[..c];
+    let told = &queries[..e];
+    let second = text::put_line(out, 0, b"view", seen);
+    let third = text::put_line(out, second, b"query", told);
+    put_third(q, v, parents, labels, seen, third, out)
 }
 
 // The text for an input whose document packet is right: it ends at byte a, and its document is in the two lists.
