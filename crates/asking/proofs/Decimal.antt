@@ -1,6 +1,6 @@
 -- Decimal digits: how a number's digits follow from those of its tenth part, how many there are, and that reading them back gives the number. Assumes nothing.
 use Prim.Native.Nat.{ℕ, zero, suc, _+_, _*_, _-_, _/_, _%_, _≤_, _<_}
-use mathlib.Core.Path.{_≡_, refl, sym, ap, ap₂, _∙_}
+use mathlib.Core.Path.{_≡_, refl, sym, ap, _∙_}
 use mathlib.Core.List.{List, [], _∷_, _++_}
 use native.Mathlib.Omega.{arith}
 use native.Mathlib.Decide.{decLt}
@@ -29,15 +29,18 @@ digits-enough (suc k) (suc j) n l m = go (λ h g. digits-enough k j (n / 10) h g
     go f (no h) =
         digits-large k n (omega arith) ∙ ap (λ ds. ds ++ ((48 + n % 10) ∷ [])) (f (omega arith) (omega arith)) ∙ sym (digits-large j n (omega arith))
 
+-- a number of one digit
 pub decimal-small : (n : ℕ) → n < 10 → decimal n ≡ (48 + n) ∷ []
 unfolding decimal
 decimal-small n l = digits-small n n l
 
+-- a number of more digits
 pub decimal-large : (n : ℕ) → 10 ≤ n → decimal n ≡ decimal (n / 10) ++ ((48 + n % 10) ∷ [])
 unfolding decimal
 decimal-large n l =
     digits-large n n l ∙ ap (λ ds. ds ++ ((48 + n % 10) ∷ [])) (digits-enough n (suc (n / 10)) (n / 10) (omega arith) (omega arith))
 
+-- has one digit more than its tenth part
 pub decimal-large-length : (n : ℕ) → 10 ≤ n → length (decimal n) ≡ length (decimal (n / 10)) + 1
 decimal-large-length n l = ap length (decimal-large n l) ∙ length-append (decimal (n / 10)) ((48 + n % 10) ∷ [])
 
@@ -45,6 +48,7 @@ decimal-large-length n l = ap length (decimal-large n l) ∙ length-append (deci
 length-1 : (n : ℕ) → n < 10 → length (decimal n) ≤ 1
 length-1 n l = omega (arith, ap length (decimal-small n l))
 
+-- ten times the number, one digit more
 longer : (m k : ℕ) → ((n : ℕ) → n < m → length (decimal n) ≤ k) → 1 ≤ k → (n : ℕ) → n < 10 * m → length (decimal n) ≤ k + 1
 longer m k f p n l = go (decLt n 10)
   where
@@ -52,9 +56,11 @@ longer m k f p n l = go (decLt n 10)
     go (yes h) = omega (arith, length-1 n h)
     go (no h) = omega (arith, decimal-large-length n (omega arith), f (n / 10) (omega arith))
 
+-- below 10,000 four digits do
 pub length-4 : (n : ℕ) → n < 10000 → length (decimal n) ≤ 4
 length-4 = longer 1000 3 (longer 100 2 (longer 10 1 length-1 (omega arith)) (omega arith)) (omega arith)
 
+-- a 16-bit number has five at most
 pub length-5 : (n : ℕ) → n < 65536 → length (decimal n) ≤ 5
 length-5 n l = longer 10000 4 length-4 (omega arith) n (omega arith)
 
@@ -63,11 +69,13 @@ unfoldable pub readFrom : ℕ → List ℕ → ℕ
 readFrom m [] = m
 readFrom m (x ∷ xs) = readFrom (m * 10 + (x - 48)) xs
 
+-- the last digit is read last
 read-last : (m : ℕ) (xs : List ℕ) (x : ℕ) → readFrom m (xs ++ (x ∷ [])) ≡ readFrom m xs * 10 + (x - 48)
 unfolding readFrom
 read-last m [] x = refl
 read-last m (y ∷ ys) x = read-last (m * 10 + (y - 48)) ys x
 
+-- by the number of digits
 reads-to : (k n : ℕ) → n < k → readFrom 0 (decimal n) ≡ n
 unfolding readFrom
 reads-to zero n l = absurd (omega arith)

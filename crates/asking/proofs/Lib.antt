@@ -6,3 +6,4 @@ pub mod Answering
 pub mod Replying
 pub mod Unique
 pub mod Shown
+pub mod Front

@@ -1,13 +1,12 @@
 -- Where the packets of an input begin and end, and what reading the document packet says of it. Assumes nothing.
 use Prim.Native.Nat.{ℕ, _+_, _*_, _-_, _≤_, _<_}
-use mathlib.Core.Path.{_≡_, refl, sym, ap, ap₂, _∙_, subst}
+use mathlib.Core.Path.{_≡_, sym, ap, ap₂, _∙_}
 use mathlib.Core.Logic.{inl, inr, ⊎-elim}
 use mathlib.Core.List.{List, [], _∷_, _++_}
 use native.Mathlib.Omega.{arith}
 use native.Mathlib.Decide.{decLt}
-use lib.ListN.{length, getD, take, drop, length-append, length-drop}
+use lib.ListN.{length, getD, take, drop, length-drop}
 use lib.Seq.{take-all, take-at, length-take-le}
-use Rattle.tables.specs.Document.{ValidDocument}
 use Rattle.tables.specs.Pattern.{patternOf, ValidShape, ValidPattern}
 use Rattle.tables.specs.Refusal.{Check, Passes, Refuses}
 use Rattle.tables.specs.declared.Refusal.{Refusal}
@@ -60,6 +59,7 @@ unfolding nextAt packetAt
 part-is bs o =
     ap (λ k. take k (drop o bs)) {x = nextAt bs o - o} {y = length (take (half bs (o + 1) + 3) (drop o bs))} (omega arith) ∙ take-again (drop o bs) (half bs (o + 1) + 3)
 
+-- so for the document packet, which begins at byte 0
 pub first-part : (bs : List ℕ) → take (nextAt bs 0) bs ≡ packetAt bs 0
 unfolding nextAt packetAt
 first-part bs = ap (λ k. take k bs) {x = nextAt bs 0} {y = length (take (half bs 1 + 3) bs)} (omega arith) ∙ take-again bs (half bs 1 + 3)

@@ -17,7 +17,7 @@ use Rattle.packets.specs.PatternPacket.{packetShape, patternChecks}
 use Rattle.packets.specs.DocumentPacket.{ReadsDocument}
 use Rattle.asking.specs.Text.{documentWord, viewWord, queryWord, inputWord, refusedLine}
 use Rattle.asking.specs.Parts.{packetAt, nextAt, documentPart, documentRules}
-use Rattle.asking.specs.Replies.{Answered, documentIn, document, view, query, extra, answered, Printed}
+use Rattle.asking.specs.Replies.{documentIn, document, view, query, extra, answered, Printed}
 use Rattle.asking.specs.Writing.{Wrote}
 use Rattle.asking.specs.Answering.{WroteAnswers}
 use Rattle.asking.proofs.Parts.{first-part, rules-refuse, packet-valid}
@@ -31,6 +31,7 @@ ReadAt bs o z p = Decided (patternChecks (packetAt bs o)) z (p ≡ patternOf (pa
 abbrev pub DocumentRead : List ℕ → Counted → List ℕ → List ℕ → Type 0
 DocumentRead bs r ps ls = ReadsDocument (documentPart bs) (replicate 2048 0) (replicate 2048 0) r ps ls
 
+-- what was read is the document packet
 pub document-read : (bs : List ℕ) (a : ℕ) (r : Counted) (ps ls : List ℕ) → a ≡ nextAt bs 0 → ReadsDocument (take a bs) (replicate 2048 0) (replicate 2048 0) r ps ls → DocumentRead bs r ps ls
 document-read bs a r ps ls e h = subst (λ l. ReadsDocument l (replicate 2048 0) (replicate 2048 0) r ps ls) (ap (λ k. take k bs) e ∙ first-part bs) h
 
@@ -58,6 +59,7 @@ module _ (bs : List ℕ) where
       at-query : b ≡ nextAt bs (nextAt bs 0)
       at-query = f ∙ ap (nextAt bs) e
 
+      -- the view packet is right
       view-passes : Passes (patternChecks (packetAt bs (nextAt bs 0)))
       view-passes = subst (λ o. Passes (patternChecks (packetAt bs o))) e (u .0)
 
@@ -67,9 +69,11 @@ module _ (bs : List ℕ) where
           printed (query r (p, view-passes) (subst (λ o. Refuses (patternChecks (packetAt bs o)) r) at-query (h .0)) (ap (λ j. refusedLine j queryWord) n)) w
 
       module _ (Q : Pattern) (q : ReadAt bs b checked.Right Q) (n : ℕ) (g : n ≡ nextAt bs b) where
+        -- where the query packet ends
         at-end : n ≡ nextAt bs (nextAt bs (nextAt bs 0))
         at-end = g ∙ ap (nextAt bs) at-query
 
+        -- the query packet is right
         query-passes : Passes (patternChecks (packetAt bs (nextAt bs (nextAt bs 0))))
         query-passes = subst (λ o. Passes (patternChecks (packetAt bs o))) at-query (q .0)
 

@@ -1,6 +1,6 @@
 -- No second text fits an input, so no second count or buffer fits the call. Assumes nothing.
 use Prim.Native.Nat.{ℕ, _≤_}
-use mathlib.Core.Path.{_≡_, refl, sym, ap, ap₂, _∙_, subst}
+use mathlib.Core.Path.{_≡_, sym, ap, ap₂, _∙_, subst}
 use mathlib.Core.List.{List, [], _∷_, _++_}
 use native.Mathlib.Omega.{arith}
 use lib.ListN.{length, drop}
@@ -57,9 +57,11 @@ module _ (bs : List ℕ) where
   no-document : {X : Type 0} (r : Refusal) → Refuses (documentRules (documentPart bs)) r → Passes (documentRules (documentPart bs)) → X
   no-document r h p = absurd (refuses-not-passes (documentRules (documentPart bs)) r h p)
 
+  -- nor the view packet
   no-view : {X : Type 0} (r : Refusal) → Refuses (patternChecks (viewPart bs)) r → Passes (patternChecks (viewPart bs)) → X
   no-view r h p = absurd (refuses-not-passes (patternChecks (viewPart bs)) r h p)
 
+  -- nor the query packet
   no-query : {X : Type 0} (r : Refusal) → Refuses (patternChecks (queryPart bs)) r → Passes (patternChecks (queryPart bs)) → X
   no-query r h p = absurd (refuses-not-passes (patternChecks (queryPart bs)) r h p)
 
@@ -91,9 +93,11 @@ module _ (bs : List ℕ) where
   replies-unique s t (answered p l e) (extra u m f) = absurd (omega arith)
   replies-unique s t (answered p l e) (answered u m f) = answered-unique (documentIn bs) (queryIn bs) (viewIn bs) s t e f
 
+  -- one count
   printed-count : (before : List ℕ) (c e : ℕ) (a b : List ℕ) → Printed bs before c a → Printed bs before e b → c ≡ e
   printed-count before c e a b h k = h .count ∙ ap length (replies-unique (h .text) (k .text) (h .replies) (k .replies)) ∙ sym (k .count)
 
+  -- one buffer
   printed-buffer : (before : List ℕ) (c e : ℕ) (a b : List ℕ) → Printed bs before c a → Printed bs before e b → a ≡ b
   printed-buffer before c e a b h k =
       h .written ∙ ap₂ (λ x n. x ++ drop n before) (replies-unique (h .text) (k .text) (h .replies) (k .replies)) (printed-count before c e a b h k) ∙ sym (k .written)

@@ -1,5 +1,5 @@
 -- Laws of the writers: one byte, one text after another, and how long the lines are. Assumes nothing.
-use Prim.Native.Nat.{ℕ, zero, suc, _+_, _*_, _-_, _≤_, _<_}
+use Prim.Native.Nat.{ℕ, zero, suc, _+_, _*_, _≤_, _<_}
 use mathlib.Core.Path.{_≡_, refl, sym, ap, ap₂, _∙_}
 use mathlib.Core.List.{List, [], _∷_, _++_, append-assoc, append-nil}
 use native.Mathlib.Omega.{arith}
@@ -97,6 +97,7 @@ pub spaced-room : (list : List ℕ) (i : ℕ) → i < length list → length (bl
 unfolding spaced
 spaced-room list i l = blocks-fit (λ k. item (getD list k 0)) (length list) i l
 
+-- one number more
 pub spaced-next : (b : List ℕ) (at : ℕ) (list : List ℕ) (i next r : ℕ) (out a : List ℕ) → at ≤ length b → i < length list → length a ≡ length out
     → Wrote out next (item (getD list i 0)) r a → Spaced b at list i next out → Spaced b at list (i + 1) r a
 unfolding blocks
@@ -137,6 +138,7 @@ unfolding spaced
 line-short w xs l h =
     omega (arith, line-length w xs, blocks-short (λ k. getD xs k 0) (length xs) h, length-4 (length xs) (omega arith))
 
+-- the parts of a refusal's line
 pub refused-length : (k : ℕ) (w : List ℕ) → length (refusedLine k w) ≡ 7 + length (item k) + 1 + length w + 1
 unfolding refusedLine
 refused-length k w =

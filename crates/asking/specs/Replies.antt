@@ -25,8 +25,11 @@ use Rattle.asking.specs.Parts.{documentPart, viewPart, queryPart, partsE
 
 -- the third line, for the query Q, the view U and the view's answers: the compensation started at them, or none, or the refusal of more than 32 steps
 pub data ThirdLine (d : Document) (Q U : Pattern) (starts text : List ℕ) : Type 0 where
+  -- a compensation is handed over, and started at the view's answers
   handed : (E : Pattern) (xs : List ℕ) → AnswersRewriting Q U rewriting.Handed E → Lists (Started (In starts) (shapeOf E) d) xs → text ≡ line rewritingWord xs → ThirdLine d Q U starts text
+  -- there is no rewriting
   none : AnswersRewriting Q U rewriting.Nothing zeroPattern → text ≡ noneLine → ThirdLine d Q U starts text
+  -- the query or the view has more than 32 steps
   refused : AnswersRewriting Q U (rewriting.Refused TooLarge) zeroPattern → text ≡ refusedLine 8 rewritingWord → ThirdLine d Q U starts text
 
 -- the answers of the view, those of the query, and the third line
@@ -39,29 +42,37 @@ pub record Answered (d : Document) (Q U : Pattern) (text : List ℕ) : Type 0 wh
   pub rewritten : ThirdLine d Q U view-answers third
   pub is : text ≡ line viewWord view-answers ++ line queryWord query-answers ++ third
 
--- the document, the view and the query of an input
+-- the document of an input
 abbrev pub documentIn : List ℕ → Document
 documentIn bs = packetDocument (documentPart bs)
 
+-- the view of an input
 abbrev pub viewIn : List ℕ → Pattern
 viewIn bs = patternOf (packetShape (viewPart bs))
 
+-- the query of an input
 abbrev pub queryIn : List ℕ → Pattern
 queryIn bs = patternOf (packetShape (queryPart bs))
 
--- the document packet and the view packet are right; and the query packet too
+-- the document packet and the view packet are right
 abbrev pub ViewRight : List ℕ → Type 0
 ViewRight bs = Passes (documentRules (documentPart bs)) × Passes (patternChecks (viewPart bs))
 
+-- all three packets are right
 abbrev pub AllRight : List ℕ → Type 0
 AllRight bs = ViewRight bs × Passes (patternChecks (queryPart bs))
 
 -- the text for an input: the line of the first packet that is refused; that of bytes past the query; or three lines
 pub data Replies (bs text : List ℕ) : Type 0 where
+  -- the document packet is refused
   document : (r : Refusal) → Refuses (documentRules (documentPart bs)) r → text ≡ refusedLine (number r) documentWord → Replies bs text
+  -- the document packet is right, the view packet is refused
   view : (r : Refusal) → Passes (documentRules (documentPart bs)) → Refuses (patternChecks (viewPart bs)) r → text ≡ refusedLine (number r) viewWord → Replies bs text
+  -- the query packet is refused
   query : (r : Refusal) → ViewRight bs → Refuses (patternChecks (queryPart bs)) r → text ≡ refusedLine (number r) queryWord → Replies bs text
+  -- all three are right, and bytes stand past them
   extra : AllRight bs → partsEnd bs < length bs → text ≡ refusedLine 2 inputWord → Replies bs text
+  -- all three are right, and nothing follows
   answered : AllRight bs → length bs ≤ partsEnd bs → Answered (documentIn bs) (queryIn bs) (viewIn bs) text → Replies bs text
 
 -- the text stands at the front of the buffer, and c counts its bytes

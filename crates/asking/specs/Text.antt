@@ -29,25 +29,31 @@ item n = 32 ∷ decimal n
 unfoldable pub spaced : List ℕ → List ℕ
 spaced xs = blocks (λ k. item (getD xs k 0)) (length xs)
 
--- the words `view`, `query`, `rewriting`, `document`, `input`, `refused` and `none`
+-- the word `view`
 abbrev pub viewWord : List ℕ
 viewWord = 118 ∷ 105 ∷ 101 ∷ 119 ∷ []
 
+-- the word `query`
 abbrev pub queryWord : List ℕ
 queryWord = 113 ∷ 117 ∷ 101 ∷ 114 ∷ 121 ∷ []
 
+-- the word `rewriting`
 abbrev pub rewritingWord : List ℕ
 rewritingWord = 114 ∷ 101 ∷ 119 ∷ 114 ∷ 105 ∷ 116 ∷ 105 ∷ 110 ∷ 103 ∷ []
 
+-- the word `document`
 abbrev pub documentWord : List ℕ
 documentWord = 100 ∷ 111 ∷ 99 ∷ 117 ∷ 109 ∷ 101 ∷ 110 ∷ 116 ∷ []
 
+-- the word `input`
 abbrev pub inputWord : List ℕ
 inputWord = 105 ∷ 110 ∷ 112 ∷ 117 ∷ 116 ∷ []
 
+-- the word `refused`
 abbrev pub refusedWord : List ℕ
 refusedWord = 114 ∷ 101 ∷ 102 ∷ 117 ∷ 115 ∷ 101 ∷ 100 ∷ []
 
+-- the word `none`
 abbrev pub noneWord : List ℕ
 noneWord = 110 ∷ 111 ∷ 110 ∷ 101 ∷ []
 

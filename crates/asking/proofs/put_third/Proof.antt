@@ -1,7 +1,6 @@
 -- `asking::put_third` meets its contract: a line for each answer of the rewriting call. Assumes nothing.
 use mathlib.Core.Path.{refl, subst}
 use native.Mathlib.Omega.{arith}
-use denote.Ref.{now}
 use Rattle.rewriting.specs.Rewriting.{AnswersRewriting}
 use Rattle.asking.specs.Text.{rewritingWord, line, refusedLine, noneLine}
 use Rattle.asking.specs.Replies.{handed, none, refused}

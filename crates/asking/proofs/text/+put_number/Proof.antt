@@ -5,7 +5,7 @@ use mathlib.Core.Path.{ap}
 use borrow.Author.Needs.{needs}
 use Rattle.asking.proofs.Decimal.{decimal-small, decimal-large, decimal-large-length}
 use Rattle.asking.proofs.Writing.{wrote-then}
-use Prim.Native.Nat.{ℕ, _/_, _<_}
+use Prim.Native.Nat.{ℕ, _<_}
 use borrow.Fn.Kinds.{In}
 use borrow.Fn.PlainCycle.{Measures, is, falls, and}
 use Rattle.asking.proofs.text.put_number.Reads as put-number

@@ -1,7 +1,6 @@
 -- `asking::text::put_word` meets its contract: the bytes before the one looked at are put. Assumes nothing.
 use Prim.Native.Nat.{_-_}
 use native.Mathlib.Omega.{arith}
-use denote.Ref.{now}
 use lib.ListN.{length}
 use borrow.Author.Needs.{needs}
 use Rattle.asking.proofs.Writing.{Copied, copied-none, copied-next, copied-all}
