@@ -11,7 +11,8 @@ use Rattle.tables.specs.Refusal.{Passes, Refuses}
 use Rattle.tables.specs.declared.Refusal.{Refusal}
 use Rattle.packets.specs.Bytes.{half}
 use Rattle.packets.specs.PatternPacket.{patternChecks}
-use Rattle.asking.specs.Parts.{packetAt, nextAt, documentRules}
+use Rattle.packets.specs.DocumentPacket.{documentRules}
+use Rattle.asking.specs.Parts.{packetAt, nextAt}
 use Rattle.asking.specs.Replies.{Replies, document, view, query, extra, answered}
 
 -- the first three bytes of a packet are those of the input

@@ -15,8 +15,8 @@ use Rattle.tables.proofs.Columns.{column-length}
 use Rattle.tables.proofs.Rules.{pattern-of-shape, agree-sym}
 use Rattle.packets.specs.Bytes.{half}
 use Rattle.packets.specs.PatternPacket.{packetShape}
-use Rattle.packets.specs.DocumentPacket.{nodesIn, packetDocument, documentChecks}
-use Rattle.asking.specs.Parts.{packetAt, nextAt, documentRules}
+use Rattle.packets.specs.DocumentPacket.{nodesIn, packetDocument, documentChecks, documentRules}
+use Rattle.asking.specs.Parts.{packetAt, nextAt}
 
 -- the length field, as its two bytes are read
 pub next-field : (bs : List ℕ) (o h : ℕ) → h ≡ getD bs (o + 1) 0 * 256 + getD bs (o + 2) 0 → h ≡ half bs (o + 1)

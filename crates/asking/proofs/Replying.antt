@@ -14,9 +14,9 @@ use Rattle.tables.specs.declared.Counted.{Counted}
 use Rattle.tables.specs.declared.Counted.the-variants as counted
 use Rattle.tables.specs.declared.Refusal.{Refusal}
 use Rattle.packets.specs.PatternPacket.{packetShape, patternChecks}
-use Rattle.packets.specs.DocumentPacket.{ReadsDocument}
+use Rattle.packets.specs.DocumentPacket.{ReadsDocument, documentRules}
 use Rattle.asking.specs.Text.{documentWord, viewWord, queryWord, inputWord, refusedLine}
-use Rattle.asking.specs.Parts.{packetAt, nextAt, documentPart, documentRules}
+use Rattle.asking.specs.Parts.{packetAt, nextAt, documentPart}
 use Rattle.asking.specs.Replies.{documentIn, document, view, query, extra, answered, Printed}
 use Rattle.asking.specs.Writing.{Wrote}
 use Rattle.asking.specs.Answering.{WroteAnswers}

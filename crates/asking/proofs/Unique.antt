@@ -18,8 +18,9 @@ use Rattle.placing.specs.Answer.{Answer, Started, In, Lists}
 use Rattle.placing.proofs.Listing.{lists-unique}
 use Rattle.rewriting.specs.Rewriting.{rewritingChecks}
 use Rattle.rewriting.proofs.Rewritten.{candidate-unique}
+use Rattle.packets.specs.DocumentPacket.{documentRules}
 use Rattle.asking.specs.Text.{rewritingWord, viewWord, queryWord, documentWord, line, refusedLine}
-use Rattle.asking.specs.Parts.{documentPart, viewPart, queryPart, documentRules}
+use Rattle.asking.specs.Parts.{documentPart, viewPart, queryPart}
 use Rattle.asking.specs.Replies.{ThirdLine, handed, none, refused, Answered, documentIn, queryIn, viewIn, Replies, document, view, query, extra, answered, Printed, ReplyOf}
 
 -- one third line fits

@@ -8,8 +8,7 @@ use native.Mathlib.Numerals.{add-one}
 use lib.ListN.{length, getD, take, drop, set, length-append, length-drop, length-set, take-append-drop}
 use lib.Seq.{set-split, length-take-le, take-suc, take-all, append-snoc}
 use Rattle.tables.specs.Column.{blocks}
-use Rattle.tables.proofs.Columns.{put-block}
-use Rattle.tables.proofs.Choice.{below-or-at}
+use Rattle.tables.proofs.Columns.{blocks-fit, put-block}
 use Rattle.asking.specs.Text.{item, refusedWord, spaced, line, refusedLine}
 use Rattle.asking.specs.Writing.{Wrote}
 use Rattle.asking.proofs.Decimal.{length-4}
@@ -83,14 +82,6 @@ pub record Spaced (before : List ℕ) (at : ℕ) (list : List ℕ) (i next : ℕ
 pub spaced-none : (b : List ℕ) (at : ℕ) (list : List ℕ) → Spaced b at list 0 at b
 unfolding blocks
 spaced-none b at list = record { low = omega arith; same = refl; wrote = wrote-none b at }
-
--- a block and those before it are no longer than all blocks
-blocks-fit : (b : ℕ → List ℕ) (n k : ℕ) → k < n → length (blocks b k) + length (b k) ≤ length (blocks b n)
-unfolding blocks
-blocks-fit b zero k l = absurd (omega arith)
-blocks-fit b (suc n) k l = below-or-at l
-    (λ h. omega (arith, blocks-fit b n k h, length-append (blocks b n) (b n)))
-    (λ e. omega (arith, length-append (blocks b n) (b n), ap (λ x. length (blocks b x)) e, ap (λ x. length (b x)) e))
 
 -- there is room for number i
 pub spaced-room : (list : List ℕ) (i : ℕ) → i < length list → length (blocks (λ k. item (getD list k 0)) i) + length (item (getD list i 0)) ≤ length (spaced list)

@@ -5,14 +5,11 @@
 --   viewPart        the view packet
 --   queryPart       the query packet
 --   partsEnd        where the query packet ends
---   documentRules   what a document packet is checked for
 -- Assumes nothing.
 use Prim.Native.Nat.{ℕ, _+_}
 use mathlib.Core.List.{List}
 use lib.ListN.{length, take, drop}
-use Rattle.tables.specs.Refusal.{Check}
 use Rattle.packets.specs.Bytes.{half}
-use Rattle.packets.specs.DocumentPacket.{documentChecks}
 
 -- the packet that begins at byte o, as long as its length field says; where the input ends early, what is left of it
 unfoldable pub packetAt : List ℕ → ℕ → List ℕ
@@ -37,7 +34,3 @@ queryPart bs = packetAt bs (nextAt bs (nextAt bs 0))
 -- the byte past the query packet
 abbrev pub partsEnd : List ℕ → ℕ
 partsEnd bs = nextAt bs (nextAt bs (nextAt bs 0))
-
--- the checks of a document packet: all but that of the room, which is the caller's own
-abbrev pub documentRules : List ℕ → List Check
-documentRules bs = take 4 (documentChecks bs 0 0)

@@ -16,12 +16,12 @@ use Rattle.tables.specs.declared.Counted.{Counted}
 use Rattle.tables.specs.declared.Refusal.{Refusal}
 use Rattle.tables.specs.declared.Refusal.the-variants.{TooLarge}
 use Rattle.packets.specs.PatternPacket.{packetShape, patternChecks}
-use Rattle.packets.specs.DocumentPacket.{packetDocument}
+use Rattle.packets.specs.DocumentPacket.{packetDocument, documentRules}
 use Rattle.placing.specs.Answer.{Answer, Started, In, Lists}
 use Rattle.rewriting.specs.Rewriting.{AnswersRewriting}
 use Rattle.rewriting.specs.declared.Rewriting.the-variants as rewriting
 use Rattle.asking.specs.Text.{viewWord, queryWord, rewritingWord, documentWord, inputWord, line, refusedLine, noneLine}
-use Rattle.asking.specs.Parts.{documentPart, viewPart, queryPart, partsEnd, documentRules}
+use Rattle.asking.specs.Parts.{documentPart, viewPart, queryPart, partsEnd}
 
 -- the third line, for the query Q, the view U and the view's answers: the compensation started at them, or none, or the refusal of more than 32 steps
 pub data ThirdLine (d : Document) (Q U : Pattern) (starts text : List ℕ) : Type 0 where

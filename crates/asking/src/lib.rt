@@ -6,9 +6,10 @@ ghost use Rattle.tables.specs.Document.{ValidDocument};
 ghost use Rattle.tables.specs.Pattern.{shapeOf, ValidPattern};
 ghost use Rattle.tables.specs.Refusal.{number, Passes};
 ghost use Rattle.packets.specs.PatternPacket.{ReadsPattern};
+ghost use Rattle.packets.specs.DocumentPacket.{documentRules};
 ghost use Rattle.placing.specs.Answer.{Answer, Started, In, StartList};
 ghost use Rattle.asking.specs.Text.{rewritingWord};
-ghost use Rattle.asking.specs.Parts.{packetAt, nextAt, documentPart, documentRules};
+ghost use Rattle.asking.specs.Parts.{packetAt, nextAt, documentPart};
 ghost use Rattle.asking.specs.Replies.{documentIn, Printed, ReplyOf};
 ghost use Rattle.asking.specs.Answering.{Finds, WroteLine, WroteThird, WroteAnswers};
 
@@ -25,17 +26,7 @@ use tables::Refusal;
 fn number_of(r: Refusal) -> usize
     ensures { λ k. ⌜ k ≡ number r ⌝ }
 {
-    match r {
-        Refusal::Version => 1,
-        Refusal::Length => 2,
-        Refusal::BadPattern => 3,
-        Refusal::BadDocument => 4,
-        Refusal::Room => 5,
-        Refusal::Start => 6,
-        Refusal::OtherLabel => 7,
-        Refusal::TooLarge => 8,
-        Refusal::NoLabel => 9,
-    }
+    tables::refusal_number(r) as usize
 }
 
 // The byte past the packet that begins at byte o: the input's end where that comes first.

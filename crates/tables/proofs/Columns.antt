@@ -11,7 +11,8 @@ use lib.Seq.{getD-append-add, getD-drop, drop-cons, drop-drop, drop-append-add, 
 use Rattle.tables.specs.Column.{blocks, column, padded}
 use Rattle.tables.proofs.Choice.{below-or-at}
 
-blocks-fit : (b : ℕ → List ℕ) (n k : ℕ) → k < n → length (blocks b k) + length (b k) ≤ length (blocks b n)
+-- block k ends within the blocks
+pub blocks-fit : (b : ℕ → List ℕ) (n k : ℕ) → k < n → length (blocks b k) + length (b k) ≤ length (blocks b n)
 unfolding blocks
 blocks-fit b zero k l = absurd (omega arith)
 blocks-fit b (suc n) k l = below-or-at l
