@@ -1,17 +1,20 @@
 -- The steps that fit at a node are those that the tables give. Assumes nothing.
-use Prim.Native.Nat.{ℕ, _/_, _%_, _<_}
+use Prim.Native.Nat.{ℕ, _/_, _%_, _^_, _<_}
 use mathlib.Core.Path.{_≡_}
 use mathlib.Core.Logic.{_⊎_, inl, inr, ⊎-elim}
 use mathlib.Core.List.{List}
 use native.Mathlib.Omega.{arith}
+use native.Mathlib.Decide.{decLt}
+use borrow.Author.Tests.{lt-ltb, le-ltb}
 use lib.Bits.{bitAnd, bitOr}
 use lib.ListN.{getD}
 use Rattle.tables.specs.Bits.{bit, Marks}
 use Rattle.tables.specs.Tree.{Child}
 use Rattle.tables.specs.Pattern.{Shape, ValidShape}
 use Rattle.tables.proofs.Marks.{bit-cases, marks-bits, marks-to, marks-or, marks-and, marks-without, marks-lt}
-use Rattle.answers.specs.Plan.{Labelled, OfAxis, Spread, ToParent, Led, lookUp, without, fitMask, FitsBy}
+use Rattle.answers.specs.Plan.{Labelled, OfAxis, Near, Forks, Spread, ToParent, Led, lookUp, without, lackMask, fitOf, fitMask, FitsBy, PlanOf}
 use Rattle.answers.proofs.Lookups.{look-up-led}
+use Rattle.answers.proofs.Nearby.{shift-down, shift-all}
 
 module _ (A : Shape) (v : ValidShape A) (c d : ℕ) where
   -- step t has a place below the node, by its axis
@@ -93,16 +96,31 @@ module _ (A : Shape) (v : ValidShape A) (c d : ℕ) where
       has-all : (s : ℕ) → (Led (ToParent A) missing s → ⊥) → (t : ℕ) → Child (A .tree) s t → Has t
       has-all s f t k = ⊎-elim (λ h. h) (λ n. absurd (f (t, marks-missing .put t (k .late, k .here, n), k))) (has-or-not t (k .here))
 
-      -- the steps of the label that lack nothing
-      fit : Marks (fitMask low high lack ch de l c d) (FitsBy A l c d)
-      unfolding fitMask
-      fit =
-          marks-to (without mask (lookUp lack missing 8)) (λ s. OfLabel s × (Led (ToParent A) missing s → ⊥)) (FitsBy A l c d)
-          (λ s q. (q .0 .0, q .0 .1, has-all s (q .1)))
-          (λ s q. ((q .0, q .1), λ p. marks-missing .only (p .0) (p .1) .2 (q .2 (p .0) (p .2))))
-          (marks-without mask (lookUp lack missing 8) OfLabel (Led (ToParent A) missing) marks-label marks-lacking)
+      -- the steps of the label that lack nothing, where x has the steps that lack something among those of the label
+      fit-by : (x : ℕ) → ((s : ℕ) → bit x s ≡ 1 → Led (ToParent A) missing s) → ((s : ℕ) → bit mask s ≡ 1 → Led (ToParent A) missing s → bit x s ≡ 1)
+          → Marks (without mask x) (FitsBy A l c d)
+      fit-by x into back =
+          marks-to (without mask x) (λ s. OfLabel s × (bit x s ≡ 1 → ⊥)) (FitsBy A l c d)
+          (λ s q. (q .0 .0, q .0 .1, has-all s (λ p. q .1 (back s (marks-label .put s (q .0)) p))))
+          (λ s q. ((q .0, q .1), λ b. let p = into s b in marks-missing .only (p .0) (p .1) .2 (q .2 (p .0) (p .2))))
+          (marks-without mask x OfLabel (λ s. bit x s ≡ 1) marks-label (marks-bits x))
+
+      module _ (near forks : ℕ) (n : Marks near (Near A)) (f : Forks A forks) where
+        -- by the table where a step of the label is a fork, else by the shift
+        choose : Dec (0 < bitAnd mask forks) → Marks (fitOf lack near forks mask missing) (FitsBy A l c d)
+        unfolding lackMask
+        choose (yes h) = rw (lt-ltb 0 (bitAnd mask forks) h) (fit-by (lookUp lack missing 8) (marks-lacking .only) (λ s b. marks-lacking .put s))
+        choose (no h) =
+            let z : bitAnd mask forks ≡ 0 = omega arith in
+            rw (le-ltb 0 (bitAnd mask forks) (omega arith))
+            (fit-by (bitAnd missing near / 2 ^ 1) (shift-down A v near forks n f missing) (λ s b. shift-all A v near forks n f mask missing s z b))
+
+        fit : Marks (fitMask low high lack ch de near forks l c d) (FitsBy A l c d)
+        unfolding fitMask
+        fit = choose (decLt 0 (bitAnd mask forks))
 
 -- the mask that the tables give has the steps that fit
-pub fit-mask : (A : Shape) → ValidShape A → (low high lack : List ℕ) (ch de l c d : ℕ) → Labelled A low high → Spread (ToParent A) (A .tree .size) lack
-    → Marks ch (OfAxis A 0) → Marks de (OfAxis A 1) → l < 65536 → Marks (fitMask low high lack ch de l c d) (FitsBy A l c d)
-fit-mask A v low high lack ch de l c d tables lacks on under small = fit A v c d ch de on under low high lack l tables lacks small
+pub fit-mask : (A : Shape) (low high lack : List ℕ) (ch de near forks l c d : ℕ) → PlanOf A low high lack ch de near forks → l < 65536
+    → Marks (fitMask low high lack ch de near forks l c d) (FitsBy A l c d)
+fit-mask A low high lack ch de near forks l c d p small =
+    fit A (p .valid) c d ch de (p .child-steps) (p .descendant-steps) low high lack l (p .labelled) (p .lacking) small near forks (p .near-steps) (p .fork-steps)

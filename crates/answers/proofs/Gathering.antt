@@ -1,6 +1,7 @@
--- The tables that a loop over the steps fills: the steps by the bytes of their label, and the parent of each. Assumes nothing.
+-- The tables that a loop over the steps fills: the steps by the bytes of their label, the parent of each, and those on which another than the next hangs. Assumes nothing.
 use Prim.Native.Nat.{ℕ, _+_, _/_, _%_, _^_, _<_}
-use mathlib.Core.Path.{_≡_, refl, sym}
+use mathlib.Core.Path.{_≡_, refl, sym, ap, _∙_, subst}
+use mathlib.Core.Logic.{_≢_}
 use mathlib.Core.Bool.{Bool, true, false}
 use mathlib.Core.List.{List}
 use native.Mathlib.Omega.{arith}
@@ -9,11 +10,13 @@ use borrow.Author.Tests.{eqb-true, eqb-false}
 use lib.Dec.{eqb}
 use lib.ListN.{length, getD, set, replicate}
 use lib.Seq.{getD-set-same, getD-set-other}
-use Rattle.tables.specs.Bits.{Marks}
+use lib.Bits.{bitOr}
+use Rattle.tables.specs.Bits.{bit, Marks}
 use Rattle.tables.specs.Pattern.{Shape}
+use Rattle.tables.proofs.Bits.{set-here, set-other}
 use Rattle.tables.proofs.Marks.{marks-none, marks-to, marks-one}
 use Rattle.tables.proofs.Gathered.{zeros-at, Keyed, keyed-all}
-use Rattle.answers.specs.Plan.{Says, Labelled, ToParent}
+use Rattle.answers.specs.Plan.{Says, Labelled, Forks, ToParent}
 
 -- the flag of an equality says it
 pub says-eqb : (a b : ℕ) → Says (eqb a b) (a ≡ b)
@@ -46,6 +49,28 @@ module _ (f : ℕ → ℕ) where
           (marks-to (getD table u 0) (λ s. (0 < u) × (u < k) × (f u ≡ s)) (λ s. (0 < u) × (u < k + 1) × (f u ≡ s))
           (λ s q. (q .0, omega (arith, q .1), q .2)) (λ s q. (q .0, omega (arith, q .1), q .2)) (m .entry u))
 
+-- x has the number f u of each u from 1 on and below k that is not the next one after it
+pub record Forking (f : ℕ → ℕ) (k x : ℕ) : Type 0 where
+  pub has : (u : ℕ) → 0 < u → u < k → f u + 1 ≢ u → bit x (f u) ≡ 1
+
+module _ (f : ℕ → ℕ) where
+  -- there is none from 1 on and below 1
+  pub forking-none : (x : ℕ) → Forking f 1 x
+  forking-none x = record { has = λ u l h n. absurd (omega arith) }
+
+  -- k is the next one after its number
+  pub forking-skip : (k x : ℕ) → f k + 1 ≡ k → Forking f k x → Forking f (k + 1) x
+  forking-skip k x e m = record { has = λ u l h n. elim (ℕ-discrete u k) [ yes z ↦ absurd (n (subst (λ y. f y + 1 ≡ y) (sym z) e)) | no w ↦ m .has u l (omega arith) n ] }
+
+  -- the number of k is put
+  pub forking-more : (k x : ℕ) → Forking f k x → Forking f (k + 1) (bitOr x (2 ^ f k))
+  forking-more k x m = record { has = λ u l h n. go u l h n (ℕ-discrete u k) (ℕ-discrete (f u) (f k)) }
+    where
+      go : (u : ℕ) → 0 < u → u < k + 1 → f u + 1 ≢ u → Dec (u ≡ k) → Dec (f u ≡ f k) → bit (bitOr x (2 ^ f k)) (f u) ≡ 1
+      go u l h n d (yes e) = rw e (set-here x (f k))
+      go u l h n (yes z) (no w) = absurd (w (ap f z))
+      go u l h n (no z) (no w) = set-other x (f k) (f u) w ∙ m .has u l (omega arith) n
+
 module _ (A : Shape) where
   -- the tables of all steps, by the low byte of the label and by the high byte
   pub labelled-all : (low high : List ℕ) → length low ≡ 256 → length high ≡ 256
@@ -57,6 +82,11 @@ module _ (A : Shape) where
         lows = λ b h. keyed-all (λ s. A .label s % 256) (A .tree .size) low m b;
         highs = λ b h. keyed-all (λ s. A .label s / 256) (A .tree .size) high n b;
       }
+
+  -- the steps on which another step than the next hangs
+  pub forks-all : (x : ℕ) → Forking (A .tree .parent) (A .tree .size) x → Forks A x
+  forks-all x m =
+      record { has = λ s t k n. subst (λ y. bit x y ≡ 1) (k .up) (m .has t (k .late) (k .here) (λ e. n (subst (λ y. y + 1 ≡ t) (k .up) e))) }
 
   -- the parents of all steps
   pub parents-all : (to : List ℕ) → Pointed (A .tree .parent) (A .tree .size) to → (t : ℕ) → Marks (getD to t 0) (ToParent A t)

@@ -3,6 +3,7 @@ pub mod Tested
 pub mod Unique
 pub mod Gathering
 pub mod Lookups
+pub mod Nearby
 pub mod Fitting
 pub mod NodeFits
 pub mod Upward

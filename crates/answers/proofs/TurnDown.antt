@@ -1,10 +1,10 @@
 -- One node's turn in the second pass, from the numbers that the code computes. Assumes nothing.
-use Prim.Native.Nat.{ℕ, zero, suc, _+_, _*_, _<_}
-use mathlib.Core.Path.{_≡_, refl, sym, ap, subst}
+use Prim.Native.Nat.{ℕ, zero, suc, _+_, _*_, _%_, _^_, _<_}
+use mathlib.Core.Path.{_≡_, refl, sym, subst}
 use mathlib.Core.Logic.{_⊎_, inl, inr, ⊎-elim}
 use mathlib.Core.List.{List}
 use native.Mathlib.Omega.{arith}
-use native.Mathlib.Decide.{ℕ-discrete}
+use native.Mathlib.Decide.{decLt}
 use native.Mathlib.Numerals.{add-one}
 use lib.Bits.{bitOr, bitAnd}
 use lib.ListN.{length, getD, set, length-set}
@@ -13,27 +13,29 @@ use Rattle.tables.specs.Bits.{bit, Marks}
 use Rattle.tables.specs.Tree.{Child}
 use Rattle.tables.specs.Document.{Document, nodeCount, nodesOf, ValidDocument}
 use Rattle.tables.specs.Pattern.{Shape}
-use Rattle.tables.proofs.Bits.{bit-zero}
 use Rattle.tables.proofs.Marks.{marks-to, marks-or, marks-and, marks-none, bits-lt}
 use Rattle.answers.specs.Working.{FitsAt, PlacedAt}
 use Rattle.answers.specs.Plan.{OfAxis, ToChildren, Led, lookUp, ChildPlan, PassedOn}
 use Rattle.answers.specs.Passes.{Allowed, Downward}
 use Rattle.answers.proofs.Lookups.{look-up-led}
+use Rattle.answers.proofs.Nearby.{shift-up}
 use Rattle.answers.proofs.Downward.{node-placed, node-allowed, root-placed, root-allowed, down-turn}
 
-module _ (A : Shape) (kids : List ℕ) (de : ℕ) (k : ChildPlan A kids de) where
+module _ (A : Shape) (kids : List ℕ) (de near forks : ℕ) (k : ChildPlan A kids de near forks) where
   -- what is passed on: steps led to, and descendant steps of what was allowed above
-  passed-marks : (whole over x : ℕ) (Over : ℕ → Type 0) → Marks over Over → ((t : ℕ) → bit whole t ≡ 1 → t < A .tree .size) → PassedOn kids whole over de x
+  passed-marks : (whole over x : ℕ) (Over : ℕ → Type 0) → Marks over Over → ((t : ℕ) → bit whole t ≡ 1 → t < A .tree .size) → PassedOn kids near forks whole over de x
       → Marks x (λ t. Led (ToChildren A) whole t ⊎ (Over t × OfAxis A 1 t))
-  passed-marks whole over x Over mo few p = go (ℕ-discrete whole 0)
+  passed-marks whole over x Over mo few p = go (decLt 0 (bitAnd whole forks))
     where
       old : Marks (bitAnd over de) (λ t. Over t × OfAxis A 1 t)
       old = marks-and over de Over (OfAxis A 1) mo (k .descendant-steps)
 
-      go : Dec (whole ≡ 0) → Marks x (λ t. Led (ToChildren A) whole t ⊎ (Over t × OfAxis A 1 t))
-      go (yes e) = rw (p .none e) (marks-to (bitAnd over de) (λ t. Over t × OfAxis A 1 t) (λ t. Led (ToChildren A) whole t ⊎ (Over t × OfAxis A 1 t))
-          (λ t w. inr w) (λ t w. ⊎-elim (λ l. absurd (omega (arith, bit-zero (l .0), ap (λ y. bit y (l .0)) e, l .1))) (λ y. y) w) old)
-      go (no n) = rw (p .some n) (marks-or (lookUp kids whole 8) (bitAnd over de) (Led (ToChildren A) whole) (λ t. Over t × OfAxis A 1 t)
+      go : Dec (0 < bitAnd whole forks) → Marks x (λ t. Led (ToChildren A) whole t ⊎ (Over t × OfAxis A 1 t))
+      go (no n) =
+          let z : bitAnd whole forks ≡ 0 = omega arith in
+          rw (p .shifted z) (marks-or (bitAnd (whole * 2 ^ 1 % 2 ^ 64) near) (bitAnd over de) (Led (ToChildren A) whole) (λ t. Over t × OfAxis A 1 t)
+          (shift-up A (k .valid) near forks (k .near-steps) (k .fork-steps) whole z) old)
+      go (yes l) = rw (p .looked-up l) (marks-or (lookUp kids whole 8) (bitAnd over de) (Led (ToChildren A) whole) (λ t. Over t × OfAxis A 1 t)
           (look-up-led (ToChildren A) (A .tree .size) kids whole (k .leading) (bits-lt 64 whole (λ s b. omega (arith, few s b, k .valid .few))) few) old)
 
   module _ (d : Document) (First : ℕ → Type 0) (vd : ValidDocument d) where
@@ -50,7 +52,7 @@ module _ (A : Shape) (kids : List ℕ) (de : ℕ) (k : ChildPlan A kids de) wher
       placed : Marks whole (PlacedAt A d First i)
       allows : Marks x (Allowed A d First i)
 
-    turn-root : (fit over start x : ℕ) → Marks fit (FitsAt A d 0) → over ≡ 0 → Marks start (λ s. (s ≡ 0) × First 0) → PassedOn kids (bitAnd fit (bitOr over start)) over de x
+    turn-root : (fit over start x : ℕ) → Marks fit (FitsAt A d 0) → over ≡ 0 → Marks start (λ s. (s ≡ 0) × First 0) → PassedOn kids near forks (bitAnd fit (bitOr over start)) over de x
         → Turn 0 over (bitAnd fit (bitOr over start)) x
     turn-root fit over start x mf z ms p =
         let None : ℕ → Type 0 = λ s. ⊥ in
@@ -67,7 +69,7 @@ module _ (A : Shape) (kids : List ℕ) (de : ℕ) (k : ChildPlan A kids de) wher
         }
 
     turn-node : (q i fit over start x : ℕ) → Child (nodesOf d .tree) q i → Marks fit (FitsAt A d i) → Marks over (Allowed A d First q) → Marks start (λ s. (s ≡ 0) × First i)
-        → PassedOn kids (bitAnd fit (bitOr over start)) over de x → Turn i over (bitAnd fit (bitOr over start)) x
+        → PassedOn kids near forks (bitAnd fit (bitOr over start)) over de x → Turn i over (bitAnd fit (bitOr over start)) x
     turn-node q i fit over start x c mf mo ms p =
         let whole : ℕ = bitAnd fit (bitOr over start) in
         let mw : Marks whole (PlacedAt A d First i) = node-placed A d First (k .valid) vd q i c whole (whole-marks i fit over start (Allowed A d First q) mf mo ms) in
@@ -82,7 +84,7 @@ module _ (A : Shape) (kids : List ℕ) (de : ℕ) (k : ChildPlan A kids de) wher
     -- either way, from the state before the turn
     turn-any : (i over x : ℕ) (before work allowed : List ℕ) → i < nodeCount d → (0 < i → getD (d .parents) i 0 < i)
         → (i ≡ 0 → over ≡ 0) → (0 < i → over ≡ getD allowed (getD (d .parents) i 0) 0)
-        → PassedOn kids (bitAnd (getD work (2 * i) 0) (bitOr over (getD work (2 * i + 1) 0))) over de x → Downward A d First i before work allowed
+        → PassedOn kids near forks (bitAnd (getD work (2 * i) 0) (bitOr over (getD work (2 * i + 1) 0))) over de x → Downward A d First i before work allowed
         → Turn i over (bitAnd (getD work (2 * i) 0) (bitOr over (getD work (2 * i + 1) 0))) x
     turn-any zero over x before work allowed l up z y p u = turn-root (getD work (2 * 0) 0) over (getD work (2 * 0 + 1) 0) x (u .fits 0 l) (z refl) (u .starts 0 (omega arith) l) p
     turn-any (suc i) over x before work allowed l up z y p u =
@@ -93,7 +95,7 @@ module _ (A : Shape) (kids : List ℕ) (de : ℕ) (k : ChildPlan A kids de) wher
     -- the turn of any node
     pub turned : (i over x : ℕ) (before work allowed : List ℕ) → i < nodeCount d → (0 < i → getD (d .parents) i 0 < i) → 2 * i + 1 < length work → i < length allowed
         → (i ≡ 0 → over ≡ 0) → (0 < i → over ≡ getD allowed (getD (d .parents) i 0) 0)
-        → PassedOn kids (bitAnd (getD work (2 * i) 0) (bitOr over (getD work (2 * i + 1) 0))) over de x
+        → PassedOn kids near forks (bitAnd (getD work (2 * i) 0) (bitOr over (getD work (2 * i + 1) 0))) over de x
         → Downward A d First i before work allowed
         → Downward A d First (i + 1) before (set work (2 * i + 1) (bitAnd (getD work (2 * i) 0) (bitOr over (getD work (2 * i + 1) 0)))) (set allowed i x)
         × Marks (bitAnd (getD work (2 * i) 0) (bitOr over (getD work (2 * i + 1) 0))) (PlacedAt A d First i)

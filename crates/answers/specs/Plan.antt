@@ -2,10 +2,11 @@
 -- contracts need not read it. Rows of numbers whose bits are steps stand for relations between steps. Assumes nothing.
 use Prim.Native.Nat.{ℕ, zero, suc, _+_, _*_, _/_, _%_, _^_, _≤_, _<_}
 use mathlib.Core.Path.{_≡_}
-use mathlib.Core.Bool.{Bool, true, false}
+use mathlib.Core.Bool.{Bool, true, false, cond}
 use mathlib.Core.Logic.{_⊎_}
 use mathlib.Core.List.{List}
 use lib.Bits.{bitAnd, bitOr, bitXor}
+use lib.Dec.{ltb}
 use lib.ListN.{length, getD}
 use Rattle.tables.specs.Tree.{Child}
 use Rattle.tables.specs.Bits.{bit, Marks}
@@ -26,6 +27,14 @@ pub record Labelled (A : Shape) (low high : List ℕ) : Type 0 where
 -- the steps past step 0 that have an axis
 abbrev pub OfAxis : Shape → ℕ → ℕ → Type 0
 OfAxis A a t = (0 < t) × (t < A .tree .size) × (A .axis t ≡ a)
+
+-- step t hangs on the step just before it
+abbrev pub Near : Shape → ℕ → Type 0
+Near A t = (0 < t) × (t < A .tree .size) × (A .tree .parent t + 1 ≡ t)
+
+-- x has the steps on which a step other than the next one hangs
+pub record Forks (A : Shape) (x : ℕ) : Type 0 where
+  pub has : (s t : ℕ) → Child (A .tree) s t → (s + 1 ≡ t → ⊥) → bit x s ≡ 1
 
 -- the entries from base + top on are those from base on with m joined, top of them; the others stay
 pub record Doubled (before : List ℕ) (base top m : ℕ) (after : List ℕ) : Type 0 where
@@ -56,10 +65,18 @@ lookUp table x (suc c) = bitOr (lookUp table x c) (getD table (256 * c + x / 2 ^
 abbrev pub without : ℕ → ℕ → ℕ
 without x y = bitXor x (bitAnd x y)
 
--- the steps that fit at a node of label l, by the tables: those of the label, without the parents of the steps that are missing below the node
-unfoldable pub fitMask : List ℕ → List ℕ → List ℕ → ℕ → ℕ → ℕ → ℕ → ℕ → ℕ
-fitMask low high lack ch de l c d =
-    without (bitAnd (getD low (l % 256) 0) (getD high (l / 256) 0)) (lookUp lack (without (bitOr ch de) (bitOr (bitAnd c ch) (bitAnd d de))) 8)
+-- the parents of missing steps: all of them where a step of the mask is a fork, else those just before the missing steps that are near
+unfoldable pub lackMask : List ℕ → ℕ → ℕ → ℕ → ℕ → ℕ
+lackMask lack near forks mask missing = cond (ltb 0 (bitAnd mask forks)) (lookUp lack missing 8) (bitAnd missing near / 2 ^ 1)
+
+-- the steps of mask, without the parents of the steps that are missing below a node
+abbrev pub fitOf : List ℕ → ℕ → ℕ → ℕ → ℕ → ℕ
+fitOf lack near forks mask missing = without mask (lackMask lack near forks mask missing)
+
+-- the steps that fit at a node of label l, by the tables: those of the label that miss nothing below the node
+unfoldable pub fitMask : List ℕ → List ℕ → List ℕ → ℕ → ℕ → ℕ → ℕ → ℕ → ℕ → ℕ → ℕ
+fitMask low high lack ch de near forks l c d =
+    fitOf lack near forks (bitAnd (getD low (l % 256) 0) (getD high (l / 256) 0)) (without (bitOr ch de) (bitOr (bitAnd c ch) (bitAnd d de)))
 
 -- the steps to which the steps of x lead
 abbrev pub Led : (ℕ → ℕ → Type 0) → ℕ → ℕ → Type 0
@@ -72,20 +89,24 @@ FitsBy A l c d s =
     × ((t : ℕ) → Child (A .tree) s t → ((A .axis t ≡ 0) × (bit c t ≡ 1)) ⊎ ((A .axis t ≡ 1) × (bit d t ≡ 1)))
 
 -- the tables of a plan are those of a pattern that obeys the rules
-pub record PlanOf (A : Shape) (low high lack : List ℕ) (ch de : ℕ) : Type 0 where
+pub record PlanOf (A : Shape) (low high lack : List ℕ) (ch de near forks : ℕ) : Type 0 where
   pub valid : ValidShape A
   pub labelled : Labelled A low high
   pub lacking : Spread (ToParent A) (A .tree .size) lack
   pub child-steps : Marks ch (OfAxis A 0)
   pub descendant-steps : Marks de (OfAxis A 1)
+  pub near-steps : Marks near (Near A)
+  pub fork-steps : Forks A forks
 
 -- the tables of the second pass
-pub record ChildPlan (A : Shape) (kids : List ℕ) (de : ℕ) : Type 0 where
+pub record ChildPlan (A : Shape) (kids : List ℕ) (de near forks : ℕ) : Type 0 where
   pub valid : ValidShape A
   pub leading : Spread (ToChildren A) (A .tree .size) kids
   pub descendant-steps : Marks de (OfAxis A 1)
+  pub near-steps : Marks near (Near A)
+  pub fork-steps : Forks A forks
 
 -- what the children of a node may take: what the steps that stand at it lead to, and the descendant steps of what was allowed above
-pub record PassedOn (kids : List ℕ) (whole above de r : ℕ) : Type 0 where
-  pub none : whole ≡ 0 → r ≡ bitAnd above de
-  pub some : (whole ≡ 0 → ⊥) → r ≡ bitOr (lookUp kids whole 8) (bitAnd above de)
+pub record PassedOn (kids : List ℕ) (near forks whole above de r : ℕ) : Type 0 where
+  pub shifted : bitAnd whole forks ≡ 0 → r ≡ bitOr (bitAnd (whole * 2 ^ 1 % 2 ^ 64) near) (bitAnd above de)
+  pub looked-up : 0 < bitAnd whole forks → r ≡ bitOr (lookUp kids whole 8) (bitAnd above de)

@@ -93,6 +93,8 @@ fn turn_up(
     lack: &[u64; 2048],
     ch: u64,
     de: u64,
+    near: u64,
+    forks: u64,
     l: u16,
     i: usize,
     p: usize,
@@ -100,11 +102,11 @@ fn turn_up(
     work: &mut [u64],
 )
     requires { ⌜ (p < i) × (i < 2048) × (2 * i + 1 < length (now work)) ⌝ }
-    ensures { λ _. ⌜ Handed (now (work .entry)) i p (fitMask (now (low .entry)) (now (high .entry)) (now (lack .entry)) ch de l (getD (now (work .entry)) (2 * i) 0) (getD (now (work .entry)) (2 * i + 1) 0)) (getD (now (work .entry)) (2 * i + 1) 0) seed (now (work .exit)) ⌝ }
+    ensures { λ _. ⌜ Handed (now (work .entry)) i p (fitMask (now (low .entry)) (now (high .entry)) (now (lack .entry)) ch de near forks l (getD (now (work .entry)) (2 * i) 0) (getD (now (work .entry)) (2 * i + 1) 0)) (getD (now (work .entry)) (2 * i + 1) 0) seed (now (work .exit)) ⌝ }
 {
     let c = work[2 * i];
     let d = work[2 * i + 1];
-    let fit = plan::fits(low, high, lack, ch, de, l, c, d);
+    let fit = plan::fits(low, high, lack, ch, de, near, forks, l, c, d);
     hand_up(work, i, p, fit, d, seed);
 }
 
@@ -115,16 +117,18 @@ fn turn_root(
     lack: &[u64; 2048],
     ch: u64,
     de: u64,
+    near: u64,
+    forks: u64,
     l: u16,
     seed: u64,
     work: &mut [u64],
 )
     requires { ⌜ 1 < length (now work) ⌝ }
-    ensures { λ _. ⌜ now (work .exit) ≡ set (set (now (work .entry)) 0 (fitMask (now (low .entry)) (now (high .entry)) (now (lack .entry)) ch de l (getD (now (work .entry)) 0 0) (getD (now (work .entry)) 1 0))) 1 seed ⌝ }
+    ensures { λ _. ⌜ now (work .exit) ≡ set (set (now (work .entry)) 0 (fitMask (now (low .entry)) (now (high .entry)) (now (lack .entry)) ch de near forks l (getD (now (work .entry)) 0 0) (getD (now (work .entry)) 1 0))) 1 seed ⌝ }
 {
     let c = work[0];
     let d = work[1];
-    let fit = plan::fits(low, high, lack, ch, de, l, c, d);
+    let fit = plan::fits(low, high, lack, ch, de, near, forks, l, c, d);
     work[0] = fit;
     work[1] = seed;
 }
@@ -136,6 +140,8 @@ fn lift(
     lack: &[u64; 2048],
     ch: u64,
     de: u64,
+    near: u64,
+    forks: u64,
     parents: &[u16],
     labels: &[u16],
     seed: u64,
@@ -144,7 +150,7 @@ fn lift(
     requires { ⌜ ValidDocument (record { parents = now parents; labels = now labels }) ⌝ }
     requires { ⌜ 2 * length (now parents) ≤ length (now work) ⌝ }
     requires { ⌜ ((q : ℕ) → q < 2 * length (now parents) → getD (now work) q 0 ≡ 0) ⌝ }
-    ensures { λ _. ⌜ ((A : Shape) → PlanOf A (now (low .entry)) (now (high .entry)) (now (lack .entry)) ch de → Upward A (record { parents = now (parents .entry); labels = now (labels .entry) }) seed 0 (now (work .entry)) (now (work .exit))) ⌝ }
+    ensures { λ _. ⌜ ((A : Shape) → PlanOf A (now (low .entry)) (now (high .entry)) (now (lack .entry)) ch de near forks → Upward A (record { parents = now (parents .entry); labels = now (labels .entry) }) seed 0 (now (work .entry)) (now (work .exit))) ⌝ }
 {
     let mut i = parents.len();
     while 1 < i {
@@ -155,6 +161,8 @@ fn lift(
             lack,
             ch,
             de,
+            near,
+            forks,
             labels[i],
             i,
             parents[i] as usize,
@@ -162,7 +170,7 @@ fn lift(
             work,
         );
     }
-    turn_root(low, high, lack, ch, de, labels[0], seed, work);
+    turn_root(low, high, lack, ch, de, near, forks, labels[0], seed, work);
 }
 
 // The first pass: which steps fit at each node, with the seed in every second entry.
@@ -179,18 +187,32 @@ pub(crate) fn rise(p: Pattern, parents: &[u16], labels: &[u16], seed: u64, work:
     plan::parent_table(p, &mut lack);
     let ch = plan::axis_steps(p, 0);
     let de = plan::axis_steps(p, 1);
+    let near = plan::near_steps(p);
+    let forks = plan::fork_steps(p);
     clear(work, 2 * parents.len());
-    lift(&low, &high, &lack, ch, de, parents, labels, seed, work);
+    lift(
+        &low,
+        &high,
+        &lack,
+        ch,
+        de,
+        near,
+        forks,
+        parents,
+        labels,
+        seed,
+        work,
+    );
 }
 
 // What the children of a node may take, where `whole` stands at the node and `over` was allowed to it.
-fn pass_on(kids: &[u64; 2048], whole: u64, over: u64, de: u64) -> u64
-    ensures { λ r. ⌜ PassedOn (now (kids .entry)) whole over de r ⌝ }
+fn pass_on(kids: &[u64; 2048], near: u64, forks: u64, whole: u64, over: u64, de: u64) -> u64
+    ensures { λ r. ⌜ PassedOn (now (kids .entry)) near forks whole over de r ⌝ }
 {
-    if whole == 0 {
-        return over & de;
+    if 0 < (whole & forks) {
+        return plan::look_up(kids, whole) | (over & de);
     }
-    plan::look_up(kids, whole) | (over & de)
+    ((whole << 1) & near) | (over & de)
 }
 
 // Node i in the answer list: put at place c and counted where it is an answer.
@@ -209,6 +231,8 @@ fn note(list: &mut [u16], c: usize, i: usize, whole: u64, output: usize) -> usiz
 fn turn_down(
     kids: &[u64; 2048],
     de: u64,
+    near: u64,
+    forks: u64,
     parents: &[u16],
     i: usize,
     work: &mut [u64],
@@ -217,12 +241,12 @@ fn turn_down(
     requires { ⌜ (i < length (now parents)) × (i < 2048) × (2 * i + 1 < length (now work)) × (length (now allowed) ≡ 2048) ⌝ }
     requires { ⌜ (0 < i → getD (now parents) i 0 < i) ⌝ }
     ensures sizes { λ _. ⌜ (length (now (work .exit)) ≡ length (now (work .entry))) × (length (now (allowed .exit)) ≡ length (now (allowed .entry))) ⌝ }
-    ensures turn { λ r. ⌜ ((A : Shape) (labels before : List ℕ) → ValidDocument (record { parents = now (parents .entry); labels = labels }) → ChildPlan A (now (kids .entry)) de → Downward A (record { parents = now (parents .entry); labels = labels }) (Marked before) i before (now (work .entry)) (now (allowed .entry)) → Downward A (record { parents = now (parents .entry); labels = labels }) (Marked before) (i + 1) before (now (work .exit)) (now (allowed .exit)) × Marks r (PlacedAt A (record { parents = now (parents .entry); labels = labels }) (Marked before) i)) ⌝ }
+    ensures turn { λ r. ⌜ ((A : Shape) (labels before : List ℕ) → ValidDocument (record { parents = now (parents .entry); labels = labels }) → ChildPlan A (now (kids .entry)) de near forks → Downward A (record { parents = now (parents .entry); labels = labels }) (Marked before) i before (now (work .entry)) (now (allowed .entry)) → Downward A (record { parents = now (parents .entry); labels = labels }) (Marked before) (i + 1) before (now (work .exit)) (now (allowed .exit)) × Marks r (PlacedAt A (record { parents = now (parents .entry); labels = labels }) (Marked before) i)) ⌝ }
 {
     let over = above(allowed, parents, i);
     let whole = work[2 * i] & (over | work[2 * i + 1]);
     work[2 * i + 1] = whole;
-    allowed[i] = pass_on(kids, whole, over, de);
+    allowed[i] = pass_on(kids, near, forks, whole, over, de);
     whole
 }
 
@@ -230,6 +254,8 @@ fn turn_down(
 fn lower(
     kids: &[u64; 2048],
     de: u64,
+    near: u64,
+    forks: u64,
     output: usize,
     parents: &[u16],
     work: &mut [u64],
@@ -237,14 +263,14 @@ fn lower(
 ) -> usize
     requires { ⌜ (output < 64) × (length (now parents) ≤ 2048) × (2 * length (now parents) ≤ length (now work)) × (length (now parents) ≤ length (now list)) ⌝ }
     requires { ⌜ ((i : ℕ) → 0 < i → i < length (now parents) → getD (now parents) i 0 < i) ⌝ }
-    ensures { λ r. ⌜ ((A : Shape) (labels : List ℕ) → ValidDocument (record { parents = now (parents .entry); labels = labels }) → ChildPlan A (now (kids .entry)) de → A .output ≡ output → Ready A (record { parents = now (parents .entry); labels = labels }) (now (work .entry)) → Found A (record { parents = now (parents .entry); labels = labels }) (Marked (now (work .entry))) (now (list .entry)) (now (work .entry)) r (now (list .exit)) (now (work .exit))) ⌝ }
+    ensures { λ r. ⌜ ((A : Shape) (labels : List ℕ) → ValidDocument (record { parents = now (parents .entry); labels = labels }) → ChildPlan A (now (kids .entry)) de near forks → A .output ≡ output → Ready A (record { parents = now (parents .entry); labels = labels }) (now (work .entry)) → Found A (record { parents = now (parents .entry); labels = labels }) (Marked (now (work .entry))) (now (list .entry)) (now (work .entry)) r (now (list .exit)) (now (work .exit))) ⌝ }
 {
     let mut allowed = [0u64; 2048];
     let n = parents.len();
     let mut c = 0;
     let mut i = 0;
     while i < n {
-        let whole = turn_down(kids, de, parents, i, work, &mut allowed);
+        let whole = turn_down(kids, de, near, forks, parents, i, work, &mut allowed);
         c = note(list, c, i, whole, output);
         i += 1;
     }
@@ -268,6 +294,8 @@ pub(crate) fn descend(
     let mut kids = [0u64; 2048];
     plan::child_table(p, &mut kids);
     let de = plan::axis_steps(p, 1);
+    let near = plan::near_steps(p);
+    let forks = plan::fork_steps(p);
     let output = p.output.0 as usize;
-    lower(&kids, de, output, parents, work, list)
+    lower(&kids, de, near, forks, output, parents, work, list)
 }

@@ -6,7 +6,7 @@ ghost use lib.Bits.{bitOr};
 ghost use Rattle.tables.specs.Bits.{bit, Marks};
 ghost use Rattle.tables.specs.Tree.{Child};
 ghost use Rattle.tables.specs.Pattern.{shapeOf, ValidPattern};
-ghost use Rattle.answers.specs.Plan.{Says, Labelled, OfAxis, Doubled, Spread, ToParent, ToChildren, lookUp, fitMask};
+ghost use Rattle.answers.specs.Plan.{Says, Labelled, OfAxis, Near, Forks, Doubled, Spread, ToParent, ToChildren, lookUp, lackMask, fitMask};
 use tables::Pattern;
 
 // The number with bit s alone.
@@ -55,6 +55,42 @@ pub(crate) fn axis_steps(p: Pattern, a: u8) -> u64
     while t < n {
         if p.axis[t] == a {
             x = x | one_bit(t);
+        }
+        t += 1;
+    }
+    x
+}
+
+// The steps that hang on the step just before them.
+pub(crate) fn near_steps(p: Pattern) -> u64
+    requires { ⌜ ValidPattern p ⌝ }
+    ensures { λ r. ⌜ Marks r (Near (shapeOf p)) ⌝ }
+{
+    let n = p.count;
+    let mut x: u64 = 0;
+    let mut t = 1;
+    while t < n {
+        let s = p.parent[t] as usize;
+        if s + 1 == t {
+            x = x | one_bit(t);
+        }
+        t += 1;
+    }
+    x
+}
+
+// The steps on which a step other than the next one hangs.
+pub(crate) fn fork_steps(p: Pattern) -> u64
+    requires { ⌜ ValidPattern p ⌝ }
+    ensures { λ r. ⌜ Forks (shapeOf p) r ⌝ }
+{
+    let n = p.count;
+    let mut x: u64 = 0;
+    let mut t = 1;
+    while t < n {
+        let s = p.parent[t] as usize;
+        if s + 1 != t {
+            x = x | one_bit(s);
         }
         t += 1;
     }
@@ -149,6 +185,16 @@ pub(crate) fn look_up(table: &[u64; 2048], x: u64) -> u64
     r
 }
 
+// The steps of `mask` that lack a step of `missing`, with others: a shift finds them, unless one of the mask is a fork.
+fn lacking(lack: &[u64; 2048], near: u64, forks: u64, mask: u64, missing: u64) -> u64
+    ensures { λ r. ⌜ r ≡ lackMask (now (lack .entry)) near forks mask missing ⌝ }
+{
+    if 0 < (mask & forks) {
+        return look_up(lack, missing);
+    }
+    (missing & near) >> 1
+}
+
 // The steps that fit at a node of label l, where c has the steps that fit at a child of the node and d those that fit at a proper descendant.
 pub(crate) fn fits(
     low: &[u64; 256],
@@ -156,20 +202,19 @@ pub(crate) fn fits(
     lack: &[u64; 2048],
     ch: u64,
     de: u64,
+    near: u64,
+    forks: u64,
     l: u16,
     c: u64,
     d: u64,
 ) -> u64
-    ensures { λ r. ⌜ r ≡ fitMask (now (low .entry)) (now (high .entry)) (now (lack .entry)) ch de l c d ⌝ }
+    ensures { λ r. ⌜ r ≡ fitMask (now (low .entry)) (now (high .entry)) (now (lack .entry)) ch de near forks l c d ⌝ }
 {
     let a = (l % 256) as usize;
     let b = (l / 256) as usize;
     let mask = low[a] & high[b];
-    if mask == 0 {
-        return 0;
-    }
     let all = ch | de;
     let have = (c & ch) | (d & de);
     let missing = all ^ (all & have);
-    mask ^ (mask & look_up(lack, missing))
+    mask ^ (mask & lacking(lack, near, forks, mask, missing))
 }

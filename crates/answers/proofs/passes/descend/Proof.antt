@@ -15,12 +15,18 @@ child-table-requires c κs = search needs
 axis-steps-requires : tie.Need-axis-steps-requires
 axis-steps-requires c κs = search needs
 
+near-steps-requires : tie.Need-near-steps-requires
+near-steps-requires c κs = search needs
+
+fork-steps-requires : tie.Need-fork-steps-requires
+fork-steps-requires c κs = search needs
+
 cast-output : tie.Need-cast-output
 cast-output c = search needs
 
 lower-requires : tie.Need-lower-requires
 lower-requires c κs =
-    let s = c .before .before .before .before .before .before .before .before .before .before .before in
+    let s = c .before .before .before .before .before .before .before .before .before .before .before .before .before in
     let v = s .pre .1 .0 in
     ((omega (arith, s .pre .0 .output, s .pre .0 .few), v .few, s .pre .1 .1 .1 .room, s .pre .1 .1 .0), λ i p l. parent-lt (document-ordered v) i p l)
 
@@ -32,9 +38,16 @@ same-length-2 c = search needs
 
 returns : tie.Need-returns
 returns c =
-    let s = c .before .before .before .before .before .before .before .before .before .before .before .before .before .before .before .before in
+    let s = c .before .before .before .before .before .before .before .before .before .before .before .before .before .before .before .before .before .before in
+    let k = c .before .before .before .before .before .before .before .before .before in
     c .before .before .before .before .lower .ensures (shapeOf (s .args .p)) (now (s .args .labels)) (s .pre .1 .0)
-    (record { valid = s .pre .0; leading = c .before .before .before .before .before .before .before .before .before .before .child-table .ensures; descendant-steps = c .before .before .before .before .before .before .before .before .before .axis-steps .ensures }) refl (s .pre .1 .1 .1)
+    (record {
+      valid = s .pre .0;
+      leading = k .before .before .before .child-table .ensures;
+      descendant-steps = k .before .before .axis-steps .ensures;
+      near-steps = k .before .near-steps .ensures;
+      fork-steps = k .fork-steps .ensures;
+    }) refl (s .pre .1 .1 .1)
 
 pub descend-spec : {M : Type 1} → statement M
 descend-spec =
@@ -42,6 +55,8 @@ descend-spec =
     (tie.spec
     child-table-requires
     axis-steps-requires
+    near-steps-requires
+    fork-steps-requires
     cast-output
     lower-requires
     same-length

@@ -15,10 +15,10 @@ use Rattle.answers.proofs.passes.lift.Statement.{statement}
 use Rattle.answers.proofs.passes.lift.Tie as tie
 
 abbrev Inv-loop : tie.InvT-loop
-Inv-loop low high lack ch de parents labels seed work₀ i₀ work i = (1 ≤ i) × (i ≤ length parents) × (length work ≡ length work₀) × ((A : Shape) → PlanOf A low high lack ch de → Upward A (record { parents = parents; labels = labels }) seed i work₀ work)
+Inv-loop low high lack ch de near forks parents labels seed work₀ i₀ work i = (1 ≤ i) × (i ≤ length parents) × (length work ≡ length work₀) × ((A : Shape) → PlanOf A low high lack ch de near forks → Upward A (record { parents = parents; labels = labels }) seed i work₀ work)
 
 abbrev μ-loop : tie.MeasureT-loop
-μ-loop low high lack ch de parents labels seed work₀ i₀ work i = i
+μ-loop low high lack ch de near forks parents labels seed work₀ i₀ work i = i
 
 loop-holds : tie.Need-loop-holds Inv-loop μ-loop
 loop-holds c =
@@ -75,7 +75,7 @@ loop-again c =
           let u : Upward A (record { parents = now (s .args .parents); labels = now (s .args .labels) }) (s .args .seed) (suc i) (now (s .args .work)) (m .loop .work) = rw z (m .loop .inv .3 A p) in
           up-turn A _ (p .valid) v (s .args .seed) i _ _ _ _ _ (record { late = omega arith; here = l; up = refl }) u
           (up-fits A _ (p .valid) v (s .args .seed) i _ _ l u _
-          (fit-mask A (p .valid) _ _ _ _ _ _ _ _ (p .labelled) (p .lacking) (p .child-steps) (p .descendant-steps) (omega (arith, v .nodes i l .label .most)))) h,
+          (fit-mask A _ _ _ _ _ _ _ _ _ _ p (omega (arith, v .nodes i l .label .most)))) h,
     )
 
 shared-slice-read-turn-root : tie.Need-shared-slice-read-turn-root Inv-loop μ-loop
@@ -107,7 +107,7 @@ returns c =
     rw (c .before .before .turn-root .ensures)
     (up-root A _ (p .valid) v (s .args .seed) _ _ w u
     (up-fits A _ (p .valid) v (s .args .seed) 0 _ w (v .some) u _
-    (fit-mask A (p .valid) _ _ _ _ _ _ _ _ (p .labelled) (p .lacking) (p .child-steps) (p .descendant-steps) (omega (arith, v .nodes 0 (v .some) .label .most)))) r)
+    (fit-mask A _ _ _ _ _ _ _ _ _ _ p (omega (arith, v .nodes 0 (v .some) .label .most)))) r)
 
 pub lift-spec : {M : Type 1} → statement M
 lift-spec =

@@ -14,13 +14,13 @@ use Rattle.answers.proofs.passes.lower.Statement.{statement}
 use Rattle.answers.proofs.passes.lower.Tie as tie
 
 abbrev Inv-loop : tie.InvT-loop
-Inv-loop kids de output parents work₀ list₀ allowed₀ n c₀ i₀ work list allowed c i =
+Inv-loop kids de near forks output parents work₀ list₀ allowed₀ n c₀ i₀ work list allowed c i =
     (i ≤ n) × (length allowed ≡ 2048) × (length work ≡ length work₀) × (length list ≡ length list₀) × (c ≤ i)
-    × ((A : Shape) (labels : List ℕ) → ValidDocument (record { parents = parents; labels = labels }) → ChildPlan A kids de → A .output ≡ output → Ready A (record { parents = parents; labels = labels }) work₀
+    × ((A : Shape) (labels : List ℕ) → ValidDocument (record { parents = parents; labels = labels }) → ChildPlan A kids de near forks → A .output ≡ output → Ready A (record { parents = parents; labels = labels }) work₀
     → Downward A (record { parents = parents; labels = labels }) (Marked work₀) i work₀ work allowed × Listed A (record { parents = parents; labels = labels }) (Marked work₀) i c list₀ list)
 
 abbrev μ-loop : tie.MeasureT-loop
-μ-loop kids de output parents work₀ list₀ allowed₀ n c₀ i₀ work list allowed c i = n - i
+μ-loop kids de near forks output parents work₀ list₀ allowed₀ n c₀ i₀ work list allowed c i = n - i
 
 loop-holds : tie.Need-loop-holds Inv-loop μ-loop
 loop-holds c =

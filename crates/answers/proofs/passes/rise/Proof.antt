@@ -22,6 +22,12 @@ axis-steps-requires c κs = search needs
 axis-steps-requires-2 : tie.Need-axis-steps-requires-2
 axis-steps-requires-2 c κs = search needs
 
+near-steps-requires : tie.Need-near-steps-requires
+near-steps-requires c κs = search needs
+
+fork-steps-requires : tie.Need-fork-steps-requires
+fork-steps-requires c κs = search needs
+
 mul-clear : tie.Need-mul-clear
 mul-clear c = search needs
 
@@ -30,7 +36,7 @@ clear-requires c κs = search needs
 
 lift-requires : tie.Need-lift-requires
 lift-requires c κs =
-    let s = c .before .before .before .before .before .before .before .before .before .before .before .before .before .before .before .before .before .before in
+    let s = c .before .before .before .before .before .before .before .before .before .before .before .before .before .before .before .before .before .before .before .before in
     let e = c .before .before .before .before .before .before .clear .ensures in
     let n : ℕ = length (now (s .args .parents)) in
     (s .pre .1 .0, (rw (e, cleared-length (2 * n) (now (s .args .work)) (s .pre .1 .1)) (s .pre .1 .1), λ q l. rw e (cleared-zero (2 * n) (now (s .args .work)) q l)))
@@ -40,10 +46,20 @@ same-length c = search needs
 
 returns : tie.Need-returns
 returns c =
-    let s = c .before .before .before .before .before .before .before .before .before .before .before .before .before .before .before .before .before .before .before .before .before in
+    let s = c .before .before .before .before .before .before .before .before .before .before .before .before .before .before .before .before .before .before .before .before .before .before .before in
     let e = c .before .before .before .before .before .before .before .before .before .clear .ensures in
     let n : ℕ = length (now (s .args .parents)) in
-    let p : PlanOf (shapeOf (s .args .p)) _ _ _ _ _ = record { valid = s .pre .0; labelled = c .before .before .before .before .before .before .before .before .before .before .before .before .before .before .before .label-steps .ensures; lacking = c .before .before .before .before .before .before .before .before .before .before .before .before .before .parent-table .ensures; child-steps = c .before .before .before .before .before .before .before .before .before .before .before .before .axis-steps .ensures; descendant-steps = c .before .before .before .before .before .before .before .before .before .before .before .axis-steps2 .ensures } in
+    let k = c .before .before .before .before .before .before .before .before .before .before .before in
+    let p : PlanOf (shapeOf (s .args .p)) _ _ _ _ _ _ _ =
+    record {
+      valid = s .pre .0;
+      labelled = k .before .before .before .before .before .before .label-steps .ensures;
+      lacking = k .before .before .before .before .parent-table .ensures;
+      child-steps = k .before .before .before .axis-steps .ensures;
+      descendant-steps = k .before .before .axis-steps2 .ensures;
+      near-steps = k .before .near-steps .ensures;
+      fork-steps = k .fork-steps .ensures;
+    } in
     up-before (shapeOf (s .args .p)) _ (s .pre .0) (s .pre .1 .0) (s .args .seed) 0 _ _ _ (cleared-length (2 * n) (now (s .args .work)) (s .pre .1 .1)) (cleared-rest (2 * n) (now (s .args .work)))
     (rw e at (c .before .before .lift .ensures (shapeOf (s .args .p)) p))
 
@@ -55,6 +71,8 @@ rise-spec =
     parent-table-requires
     axis-steps-requires
     axis-steps-requires-2
+    near-steps-requires
+    fork-steps-requires
     mul-clear
     clear-requires
     lift-requires

@@ -1,4 +1,4 @@
--- `answers::plan::fits` meets its contract; where no step has the label, there is nothing to look up. Assumes nothing.
+-- `answers::plan::fits` meets its contract. Assumes nothing.
 use borrow.Author.Needs.{needs}
 use Rattle.answers.specs.Plan.{fitMask}
 use Rattle.answers.proofs.plan.fits.Statement.{statement}
@@ -22,16 +22,12 @@ mul-mask-2 c = search needs
 element-copy-out-mask-2 : tie.Need-element-copy-out-mask-2
 element-copy-out-mask-2 c = search needs
 
+lacking-requires : tie.Need-lacking-requires
+lacking-requires c κs = search needs
+
 returns : tie.Need-returns
 unfolding fitMask
-returns c = rw (c .if1 .taken)
-
-look-up-requires : tie.Need-look-up-requires
-look-up-requires c κs = search needs
-
-returns-2 : tie.Need-returns-2
-unfolding fitMask
-returns-2 c = rw (c .look-up .ensures)
+returns c = rw (c .lacking .ensures)
 
 pub fits-spec : {M : Type 1} → statement M
 fits-spec =
@@ -43,6 +39,5 @@ fits-spec =
     element-copy-out-mask
     mul-mask-2
     element-copy-out-mask-2
-    returns
-    look-up-requires
-    returns-2)
+    lacking-requires
+    returns)

@@ -1,0 +1,74 @@
+-- `answers::plan::fork_steps` meets its contract. The loop's invariant: `x` has the parents of the steps from 1 on and below t that are not the next after them. Assumes nothing.
+use Prim.Native.Nat.{ℕ, _-_, _≤_, _<_}
+use mathlib.Core.Logic.{⊎-elim}
+use mathlib.Core.Path.{_≡_}
+use native.Mathlib.Omega.{arith}
+use lib.ListN.{getD}
+use Rattle.tables.specs.Pattern.{shapeOf}
+use Rattle.answers.proofs.Gathering.{parent-few, forks-all, Forking, forking-none, forking-skip, forking-more}
+use Rattle.answers.proofs.plan.fork_steps.Statement.{statement}
+use Rattle.answers.proofs.plan.fork_steps.Tie as tie
+
+abbrev Inv-loop : tie.InvT-loop
+Inv-loop p n x₀ t₀ x t = (0 < t) × (t ≤ n) × Forking (λ k. getD (p .parent) k 0) t x
+
+abbrev μ-loop : tie.MeasureT-loop
+μ-loop p n x₀ t₀ x t = n - t
+
+loop-holds : tie.Need-loop-holds Inv-loop μ-loop
+loop-holds c = (omega arith, omega arith, forking-none _ 0)
+
+element-copy-out-s : tie.Need-element-copy-out-s Inv-loop μ-loop
+element-copy-out-s c = omega arith
+
+-- the step's parent is below 64
+few : (c : tie.In-loop Inv-loop μ-loop) → getD (c .before .before .args .t1 .parent) (c .before .loop .t) 0 < 64
+few c = parent-few (shapeOf (c .before .before .args .t1)) (c .before .before .pre) (c .before .loop .t) (c .before .loop .inv .0) (c .loop-test .taken)
+
+cast-s : tie.Need-cast-s Inv-loop μ-loop
+cast-s c = record { fits = omega (arith, few (c .before)) }
+
+add-if1 : tie.Need-add-if1 Inv-loop μ-loop
+add-if1 c = record { fits = omega (arith, few (c .before)) }
+
+one-bit-requires : tie.Need-one-bit-requires Inv-loop μ-loop
+one-bit-requires c κs = few (c .before .before)
+
+add-t : tie.Need-add-t Inv-loop μ-loop
+add-t c = omega arith
+
+loop-less : tie.Need-loop-less Inv-loop μ-loop
+loop-less c = omega arith
+
+loop-again : tie.Need-loop-again Inv-loop μ-loop
+loop-again c =
+    let m = c .before .before .before in
+    let f : ℕ → ℕ = λ k. getD (m .before .args .t1 .parent) k 0 in (
+      omega arith,
+      omega arith,
+      ⊎-elim
+          (λ w. rw (w .2, w .1 .ensures) (forking-more f (m .loop .t) (m .loop .x) (m .loop .inv .2)))
+          (λ w. rw (w .1) (forking-skip f (m .loop .t) (m .loop .x) (w .0 .left) (m .loop .inv .2)))
+          (c .if1 .came),
+    )
+
+returns : tie.Need-returns Inv-loop μ-loop
+returns c =
+    let e : c .before .loop .t ≡ c .before .before .args .t1 .count = omega arith in
+    forks-all (shapeOf (c .before .before .args .t1)) (c .before .loop .x) (rw e at (c .before .loop .inv .2))
+
+pub fork-steps-spec : {M : Type 1} → statement M
+fork-steps-spec =
+    tie.close
+    (tie.spec
+    Inv-loop
+    μ-loop
+    loop-holds
+    element-copy-out-s
+    cast-s
+    add-if1
+    one-bit-requires
+    add-t
+    loop-less
+    loop-again
+    returns)
