@@ -32,7 +32,7 @@ OfAxis A a t = (0 < t) × (t < A .tree .size) × (A .axis t ≡ a)
 abbrev pub Near : Shape → ℕ → Type 0
 Near A t = (0 < t) × (t < A .tree .size) × (A .tree .parent t + 1 ≡ t)
 
--- x has the steps on which a step other than the next one hangs
+-- x has every step on which a step other than the next one hangs
 pub record Forks (A : Shape) (x : ℕ) : Type 0 where
   pub has : (s t : ℕ) → Child (A .tree) s t → (s + 1 ≡ t → ⊥) → bit x s ≡ 1
 
@@ -106,7 +106,7 @@ pub record ChildPlan (A : Shape) (kids : List ℕ) (de near forks : ℕ) : Type 
   pub near-steps : Marks near (Near A)
   pub fork-steps : Forks A forks
 
--- what the children of a node may take: what the steps that stand at it lead to, and the descendant steps of what was allowed above
+-- what the children of a node may take: what the steps that stand at it lead to, found by a shift or in the table, and the descendant steps of what was allowed above
 pub record PassedOn (kids : List ℕ) (near forks whole above de r : ℕ) : Type 0 where
   pub shifted : bitAnd whole forks ≡ 0 → r ≡ bitOr (bitAnd (whole * 2 ^ 1 % 2 ^ 64) near) (bitAnd above de)
   pub looked-up : 0 < bitAnd whole forks → r ≡ bitOr (lookUp kids whole 8) (bitAnd above de)

@@ -205,14 +205,15 @@ pub(crate) fn rise(p: Pattern, parents: &[u16], labels: &[u16], seed: u64, work:
     );
 }
 
-// What the children of a node may take, where `whole` stands at the node and `over` was allowed to it.
+// What the children of a node may take, where `whole` stands at the node and `over` was allowed to it. Where no step is a fork, a shift finds the steps that hang on them.
 fn pass_on(kids: &[u64; 2048], near: u64, forks: u64, whole: u64, over: u64, de: u64) -> u64
     ensures { λ r. ⌜ PassedOn (now (kids .entry)) near forks whole over de r ⌝ }
 {
+    let mut led = (whole << 1) & near;
     if 0 < (whole & forks) {
-        return plan::look_up(kids, whole) | (over & de);
+        led = plan::look_up(kids, whole);
     }
-    ((whole << 1) & near) | (over & de)
+    led | (over & de)
 }
 
 // Node i in the answer list: put at place c and counted where it is an answer.

@@ -185,7 +185,7 @@ pub(crate) fn look_up(table: &[u64; 2048], x: u64) -> u64
     r
 }
 
-// The steps of `mask` that lack a step of `missing`, with others: a shift finds them, unless one of the mask is a fork.
+// The steps that lack a step of `missing`, as far as `mask` asks: where none of its steps is a fork, each can lack the next step alone, and a shift finds them.
 fn lacking(lack: &[u64; 2048], near: u64, forks: u64, mask: u64, missing: u64) -> u64
     ensures { λ r. ⌜ r ≡ lackMask (now (lack .entry)) near forks mask missing ⌝ }
 {

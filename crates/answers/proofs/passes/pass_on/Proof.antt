@@ -1,4 +1,5 @@
 -- Where a step is a fork, the table is looked up; otherwise the shift is what is passed on. Assumes nothing.
+use mathlib.Core.Logic.{⊎-elim}
 use native.Mathlib.Omega.{arith}
 use borrow.Author.Needs.{needs}
 use Rattle.answers.proofs.passes.pass_on.Statement.{statement}
@@ -8,10 +9,11 @@ look-up-requires : tie.Need-look-up-requires
 look-up-requires c κs = search needs
 
 returns : tie.Need-returns
-returns c = record { shifted = λ e. absurd (omega (arith, e, c .before .if1 .taken)); looked-up = λ l. rw (c .look-up .ensures) }
-
-returns-2 : tie.Need-returns-2
-returns-2 c = search needs
+returns c =
+    ⊎-elim
+    (λ w. record { shifted = λ e. absurd (omega (arith, e, w .0 .taken)); looked-up = λ l. rw (w .2, w .1 .ensures) })
+    (λ w. record { shifted = λ e. rw (w .1); looked-up = λ l. absurd (omega (arith, l, w .0 .left)) })
+    (c .before .if1 .came)
 
 pub pass-on-spec : {M : Type 1} → statement M
-pass-on-spec = tie.close (tie.spec look-up-requires returns returns-2)
+pass-on-spec = tie.close (tie.spec look-up-requires returns)
