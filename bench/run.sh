@@ -82,6 +82,7 @@ report() {
         "Each time is the median of $samples samples, fewer where libxml2 takes long; the sides of a row take turns."
     echo
     "$build/bench" "$samples"
+    cat bench/explained.md
 }
 
 if [ -n "$out" ]; then
