@@ -17,5 +17,6 @@ pub mod Images
 pub mod Greedily
 pub mod Verdicts
 pub mod Writing
+pub mod Marked
 pub mod Answering
 pub mod Called

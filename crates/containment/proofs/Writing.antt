@@ -1,11 +1,13 @@
 -- The witness as the code writes it, one step after another. Assumes nothing.
-use Prim.Native.Nat.{ℕ, suc, _+_, _≤_, _<_}
+use Prim.Native.Nat.{ℕ, suc, _+_, _-_, _≤_, _<_}
 use mathlib.Core.Path.{_≡_, refl, sym, _∙_}
 use mathlib.Core.Logic.{_⊎_, inl, inr}
 use mathlib.Core.List.{List, [], _∷_, _++_, append-assoc}
 use native.Mathlib.Omega.{arith}
 use native.Mathlib.Numerals.{add-one}
-use lib.ListN.{length, drop, set, length-append, length-drop}
+use borrow.Author.Count.{below-more}
+use lib.Seq.{getD-set-same, getD-set-other}
+use lib.ListN.{length, getD, drop, set, length-append, length-drop}
 use Rattle.tables.specs.Column.{blocks}
 use Rattle.tables.specs.Pattern.{Shape, ValidShape}
 use Rattle.tables.proofs.Columns.{put-next}
@@ -27,6 +29,19 @@ pub record Front (A : Shape) (l s m : ℕ) (parents₀ labels₀ parents labels 
   pub place : m ≡ s + descendants A s
   pub parent-list : parents ≡ blocks (parentsFor A) s ++ drop m parents₀
   pub label-list : labels ≡ blocks (labelsFor A l) s ++ drop m labels₀
+
+-- the table has the nodes of the first s steps
+abbrev pub NodesTo : Shape → ℕ → List ℕ → Type 0
+NodesTo A s nodes = (k : ℕ) → k < s → getD nodes k 0 ≡ ownNode A k
+
+-- one step more: its node is the last that is written
+pub nodes-more : (A : Shape) (s r : ℕ) (nodes : List ℕ) → s < length nodes → r ≡ s + 1 + descendants A (s + 1) → NodesTo A s nodes
+    → NodesTo A (s + 1) (set nodes s (r - 1))
+unfolding ownNode
+nodes-more A s r nodes l e old =
+    below-more (λ (k : ℕ). getD (set nodes s (r - 1)) k 0 ≡ ownNode A k) s
+    (λ k g. getD-set-other nodes s k (r - 1) 0 (omega arith) ∙ old k g)
+    (getD-set-same nodes s (r - 1) 0 l ∙ rw (← add-one s) (omega (arith, e)))
 
 pub front-none : (A : Shape) (l : ℕ) (parents₀ labels₀ : List ℕ) → Front A l 0 0 parents₀ labels₀ parents₀ labels₀
 unfolding blocks descendants

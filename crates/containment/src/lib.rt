@@ -1,9 +1,14 @@
 // Containment of one pattern in another (docs/RULES.md, "Containment").
-ghost use Prim.Native.Nat.{_≤_};
+ghost use Prim.Native.Nat.{ℕ, _≤_};
 ghost use mathlib.Core.Path.{_≡_};
+ghost use mathlib.Core.Logic.{_⊎_};
+ghost use mathlib.Core.Bool.{false};
+ghost use lib.Dec.{T};
+ghost use lib.ListN.{getD};
 ghost use Rattle.tables.specs.Pattern.{shapeOf, ValidPattern};
 ghost use Rattle.containment.specs.Containment.{mappingArray, DecidesContainment};
 ghost use Rattle.containment.specs.Verdict.{Decides};
+ghost use Rattle.containment.specs.Witness.{Stands};
 ghost use Rattle.containment.specs.Feasible.{FreshOr0};
 
 mod choosing;
@@ -42,19 +47,43 @@ pub struct VerdictAnswer {
     pub mapping: [StepNo; 64],
 }
 
-// The smallest label from 1 up that stands at no step of a or b; 0 where each of them stands at one.
+// Marks the labels of a below 256 in a table.
+fn mark_labels(a: Pattern, used: &mut [bool; 256])
+    requires { ⌜ a .count ≤ 64 ⌝ }
+    ensures { λ _. ⌜ ((k : ℕ) → T (getD (now (used .exit)) k false) → T (getD (now (used .entry)) k false) ⊎ Stands (shapeOf a) k) ⌝ }
+{
+    let n = a.count;
+    let mut s = 0;
+    while s < n {
+        let l = a.label[s] as usize;
+        if l < 256 {
+            used[l] = true;
+        }
+        s += 1;
+    }
+}
+
+// The smallest label from 1 up that stands at no step of a or b; 0 where each of them stands at one. Labels that are marked need no search.
 fn fresh(a: Pattern, b: Pattern) -> u16
     requires { ⌜ (a .count ≤ 64) × (b .count ≤ 64) ⌝ }
     ensures { λ r. ⌜ FreshOr0 (shapeOf a) (shapeOf b) r ⌝ }
 {
     let n = a.count;
     let m = b.count;
+    let mut used = [false; 256];
+    mark_labels(a, &mut used);
+    mark_labels(b, &mut used);
     let mut l: u16 = 0;
     let found = 'labels: loop {
         if l == 65535 {
             break 0;
         }
         l += 1;
+        if l < 256 {
+            if used[l as usize] {
+                continue 'labels;
+            }
+        }
         let mut s = 0;
         while s < n {
             if a.label[s] == l {

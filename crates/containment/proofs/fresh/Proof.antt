@@ -1,33 +1,41 @@
 -- `containment::fresh` meets its contract. The labels up to l all stand; in the inner loops the steps looked at do not have the label l. Assumes nothing.
 use Prim.Native.Nat.{ℕ, _+_, _-_, _<_, _≤_}
-use mathlib.Core.Path.{_≡_, sym, _∙_}
-use mathlib.Core.Logic.{_⊎_, inl, inr}
+use mathlib.Core.Path.{_≡_, sym, _∙_, subst}
+use mathlib.Core.Logic.{_⊎_, inl, inr, ⊎-elim}
+use lib.Dec.{T}
 use lib.ListN.{getD}
 use native.Mathlib.Omega.{arith}
 use native.Mathlib.Numerals.{add-one}
 use borrow.Author.Count.{below-more}
 use Rattle.tables.specs.Pattern.{shapeOf}
 use Rattle.containment.specs.Witness.{Stands}
+use Rattle.containment.proofs.Marked.{none-marked}
 use Rattle.containment.proofs.fresh.Statement.{statement}
 use Rattle.containment.proofs.fresh.Tie as tie
 
 abbrev Inv-loop : tie.InvT-loop
-Inv-loop a b n m l s₀ s = (s ≤ n) × ((k : ℕ) → k < s → getD (a .label) k 0 ≡ l → ⊥)
+Inv-loop a b n m used l s₀ s = (s ≤ n) × ((k : ℕ) → k < s → getD (a .label) k 0 ≡ l → ⊥)
 
 abbrev μ-loop : tie.MeasureT-loop
-μ-loop a b n m l s₀ s = n - s
+μ-loop a b n m used l s₀ s = n - s
 
 abbrev Inv-loop2 : tie.InvT-loop2
-Inv-loop2 a b n m l s t₀ t = (t ≤ m) × ((k : ℕ) → k < t → getD (b .label) k 0 ≡ l → ⊥)
+Inv-loop2 a b n m used l s t₀ t = (t ≤ m) × ((k : ℕ) → k < t → getD (b .label) k 0 ≡ l → ⊥)
 
 abbrev μ-loop2 : tie.MeasureT-loop2
-μ-loop2 a b n m l s t₀ t = m - t
+μ-loop2 a b n m used l s t₀ t = m - t
 
 abbrev Inv-labels : tie.InvT-labels
-Inv-labels a b n m l₀ l = (l ≤ 65535) × ((k : ℕ) → k < l + 1 → 1 ≤ k → Stands (shapeOf a) k ⊎ Stands (shapeOf b) k)
+Inv-labels a b n m used l₀ l = (l ≤ 65535) × ((k : ℕ) → k < l + 1 → 1 ≤ k → Stands (shapeOf a) k ⊎ Stands (shapeOf b) k)
 
 abbrev μ-labels : tie.MeasureT-labels
-μ-labels a b n m l₀ l = 65535 - l
+μ-labels a b n m used l₀ l = 65535 - l
+
+mark-labels-requires : tie.Need-mark-labels-requires Inv-loop μ-loop Inv-loop2 μ-loop2 Inv-labels μ-labels
+mark-labels-requires c κs = c .before .pre .0
+
+mark-labels-requires-2 : tie.Need-mark-labels-requires-2 Inv-loop μ-loop Inv-loop2 μ-loop2 Inv-labels μ-labels
+mark-labels-requires-2 c κs = c .before .before .before .pre .1
 
 labels-holds : tie.Need-labels-holds Inv-loop μ-loop Inv-loop2 μ-loop2 Inv-labels μ-labels
 labels-holds c = (omega arith, λ k g h. absurd (omega arith))
@@ -35,25 +43,45 @@ labels-holds c = (omega arith, λ k g h. absurd (omega arith))
 add-l : tie.Need-add-l Inv-loop μ-loop Inv-loop2 μ-loop2 Inv-labels μ-labels
 add-l c = omega arith
 
-loop-holds : tie.Need-loop-holds Inv-loop μ-loop Inv-loop2 μ-loop2 Inv-labels μ-labels
-loop-holds c = (omega arith, λ k g h. omega arith)
+cast-if3 : tie.Need-cast-if3 Inv-loop μ-loop Inv-loop2 μ-loop2 Inv-labels μ-labels
+cast-if3 c = omega arith
 
-mul-if2 : tie.Need-mul-if2 Inv-loop μ-loop Inv-loop2 μ-loop2 Inv-labels μ-labels
-mul-if2 c = omega arith
-
-element-copy-out-if2 :
-    tie.Need-element-copy-out-if2 Inv-loop μ-loop Inv-loop2 μ-loop2 Inv-labels μ-labels
-element-copy-out-if2 c = omega arith
+array-read-if3 : tie.Need-array-read-if3 Inv-loop μ-loop Inv-loop2 μ-loop2 Inv-labels μ-labels
+array-read-if3 c = omega arith
 
 labels-less : tie.Need-labels-less Inv-loop μ-loop Inv-loop2 μ-loop2 Inv-labels μ-labels
 labels-less c = omega arith
 
 labels-again : tie.Need-labels-again Inv-loop μ-loop Inv-loop2 μ-loop2 Inv-labels μ-labels
 labels-again c =
-    let l = c .before .before .before .before .before .labels in (
+    let l = c .before .before .before .labels in (
       omega arith,
       below-more (λ (k : ℕ). 1 ≤ k → Stands _ k ⊎ Stands _ k) (l .l + 1) (l .inv .1)
-          (λ z. inl (record { step = c .before .before .before .loop .s; here = omega arith; is = c .if2 .taken })),
+          (λ z. ⊎-elim
+          (λ t. ⊎-elim (λ f. absurd (none-marked 256 (l .l + 1) (omega arith) f)) inl (c .before .before .before .before .before .before .mark-labels .ensures (l .l + 1) t))
+          inr
+          (c .before .before .before .before .mark-labels2 .ensures (l .l + 1) (subst T (sym (c .if3 .taken)) tt))),
+    )
+
+loop-holds : tie.Need-loop-holds Inv-loop μ-loop Inv-loop2 μ-loop2 Inv-labels μ-labels
+loop-holds c = (omega arith, λ k g h. omega arith)
+
+mul-if4 : tie.Need-mul-if4 Inv-loop μ-loop Inv-loop2 μ-loop2 Inv-labels μ-labels
+mul-if4 c = omega arith
+
+element-copy-out-if4 :
+    tie.Need-element-copy-out-if4 Inv-loop μ-loop Inv-loop2 μ-loop2 Inv-labels μ-labels
+element-copy-out-if4 c = omega arith
+
+labels-less-2 : tie.Need-labels-less-2 Inv-loop μ-loop Inv-loop2 μ-loop2 Inv-labels μ-labels
+labels-less-2 c = omega arith
+
+labels-again-2 : tie.Need-labels-again-2 Inv-loop μ-loop Inv-loop2 μ-loop2 Inv-labels μ-labels
+labels-again-2 c =
+    let l = c .before .before .before .before .before .before .labels in (
+      omega arith,
+      below-more (λ (k : ℕ). 1 ≤ k → Stands _ k ⊎ Stands _ k) (l .l + 1) (l .inv .1)
+          (λ z. inl (record { step = c .before .before .before .loop .s; here = omega arith; is = c .if4 .taken })),
     )
 
 add-s : tie.Need-add-s Inv-loop μ-loop Inv-loop2 μ-loop2 Inv-labels μ-labels
@@ -63,27 +91,27 @@ loop-less : tie.Need-loop-less Inv-loop μ-loop Inv-loop2 μ-loop2 Inv-labels μ
 loop-less c = omega arith
 
 loop-again : tie.Need-loop-again Inv-loop μ-loop Inv-loop2 μ-loop2 Inv-labels μ-labels
-loop-again c = (omega arith, below-more _ _ (c .before .before .before .loop .inv .1) (c .if2 .left))
+loop-again c = (omega arith, below-more _ _ (c .before .before .before .loop .inv .1) (c .if4 .left))
 
 loop2-holds : tie.Need-loop2-holds Inv-loop μ-loop Inv-loop2 μ-loop2 Inv-labels μ-labels
 loop2-holds c = (omega arith, λ k g h. omega arith)
 
-mul-if3 : tie.Need-mul-if3 Inv-loop μ-loop Inv-loop2 μ-loop2 Inv-labels μ-labels
-mul-if3 c = omega arith
+mul-if5 : tie.Need-mul-if5 Inv-loop μ-loop Inv-loop2 μ-loop2 Inv-labels μ-labels
+mul-if5 c = omega arith
 
-element-copy-out-if3 :
-    tie.Need-element-copy-out-if3 Inv-loop μ-loop Inv-loop2 μ-loop2 Inv-labels μ-labels
-element-copy-out-if3 c = omega arith
+element-copy-out-if5 :
+    tie.Need-element-copy-out-if5 Inv-loop μ-loop Inv-loop2 μ-loop2 Inv-labels μ-labels
+element-copy-out-if5 c = omega arith
 
-labels-less-2 : tie.Need-labels-less-2 Inv-loop μ-loop Inv-loop2 μ-loop2 Inv-labels μ-labels
-labels-less-2 c = omega arith
+labels-less-3 : tie.Need-labels-less-3 Inv-loop μ-loop Inv-loop2 μ-loop2 Inv-labels μ-labels
+labels-less-3 c = omega arith
 
-labels-again-2 : tie.Need-labels-again-2 Inv-loop μ-loop Inv-loop2 μ-loop2 Inv-labels μ-labels
-labels-again-2 c =
-    let l = c .before .before .before .before .before .before .before .labels in (
+labels-again-3 : tie.Need-labels-again-3 Inv-loop μ-loop Inv-loop2 μ-loop2 Inv-labels μ-labels
+labels-again-3 c =
+    let l = c .before .before .before .before .before .before .before .before .labels in (
       omega arith,
       below-more (λ (k : ℕ). 1 ≤ k → Stands _ k ⊎ Stands _ k) (l .l + 1) (l .inv .1)
-          (λ z. inr (record { step = c .before .before .before .loop2 .t; here = omega arith; is = c .if3 .taken })),
+          (λ z. inr (record { step = c .before .before .before .loop2 .t; here = omega arith; is = c .if5 .taken })),
     )
 
 add-t : tie.Need-add-t Inv-loop μ-loop Inv-loop2 μ-loop2 Inv-labels μ-labels
@@ -93,14 +121,14 @@ loop2-less : tie.Need-loop2-less Inv-loop μ-loop Inv-loop2 μ-loop2 Inv-labels 
 loop2-less c = omega arith
 
 loop2-again : tie.Need-loop2-again Inv-loop μ-loop Inv-loop2 μ-loop2 Inv-labels μ-labels
-loop2-again c = (omega arith, below-more _ _ (c .before .before .before .loop2 .inv .1) (c .if3 .left))
+loop2-again c = (omega arith, below-more _ _ (c .before .before .before .loop2 .inv .1) (c .if5 .left))
 
 returns : tie.Need-returns Inv-loop μ-loop Inv-loop2 μ-loop2 Inv-labels μ-labels
 returns c = λ k g h. c .before .labels .inv .1 k (omega arith) g
 
 returns-2 : tie.Need-returns-2 Inv-loop μ-loop Inv-loop2 μ-loop2 Inv-labels μ-labels
 returns-2 c =
-    let l = c .before .before .before .before .before .labels in
+    let l = c .before .before .before .before .before .before .labels in
     let e = add-one (l .l) in
     rw e
     record {
@@ -120,21 +148,27 @@ fresh-spec =
     μ-loop2
     Inv-labels
     μ-labels
+    mark-labels-requires
+    mark-labels-requires-2
     labels-holds
     add-l
-    loop-holds
-    mul-if2
-    element-copy-out-if2
+    cast-if3
+    array-read-if3
     labels-less
     labels-again
+    loop-holds
+    mul-if4
+    element-copy-out-if4
+    labels-less-2
+    labels-again-2
     add-s
     loop-less
     loop-again
     loop2-holds
-    mul-if3
-    element-copy-out-if3
-    labels-less-2
-    labels-again-2
+    mul-if5
+    element-copy-out-if5
+    labels-less-3
+    labels-again-3
     add-t
     loop2-less
     loop2-again

@@ -1,0 +1,67 @@
+-- `containment::mark_labels` meets its contract. The loop's invariant: what is marked was so before or stands at a step. Assumes nothing.
+use Prim.Native.Nat.{_-_, _≤_}
+use mathlib.Core.Logic.{inl, ⊎-elim}
+use denote.Ref.{now}
+use native.Mathlib.Omega.{arith}
+use Rattle.tables.specs.Pattern.{shapeOf}
+use Rattle.containment.proofs.Marked.{Marked, marked-more}
+use borrow.Author.Needs.{needs}
+use Rattle.containment.proofs.mark_labels.Statement.{statement}
+use Rattle.containment.proofs.mark_labels.Tie as tie
+
+abbrev Inv-loop : tie.InvT-loop
+Inv-loop used₀ a n s₀ used s = (s ≤ n) × Marked (shapeOf a) used₀ used
+
+abbrev μ-loop : tie.MeasureT-loop
+μ-loop used₀ a n s₀ used s = n - s
+
+loop-holds : tie.Need-loop-holds Inv-loop μ-loop
+loop-holds c = (omega arith, λ k t. inl t)
+
+mul-l : tie.Need-mul-l Inv-loop μ-loop
+mul-l c = omega arith
+
+element-copy-out-l : tie.Need-element-copy-out-l Inv-loop μ-loop
+element-copy-out-l c = omega arith
+
+cast-l : tie.Need-cast-l Inv-loop μ-loop
+cast-l c = search needs
+
+element-write-used : tie.Need-element-write-used Inv-loop μ-loop
+element-write-used c = omega arith
+
+add-s : tie.Need-add-s Inv-loop μ-loop
+add-s c = omega arith
+
+loop-less : tie.Need-loop-less Inv-loop μ-loop
+loop-less c = omega arith
+
+loop-again : tie.Need-loop-again Inv-loop μ-loop
+loop-again c =
+    let m = c .before .before .before in
+    let a = m .before .args in (
+      omega arith,
+      ⊎-elim
+          (λ w. rw (w .1) (marked-more (shapeOf (a .t1)) (m .loop .s) (now (a .used)) (m .loop .used) (omega arith) (m .loop .inv .1)))
+          (λ w. rw (w .1) (m .loop .inv .1))
+          (c .if1 .came),
+    )
+
+returns : tie.Need-returns Inv-loop μ-loop
+returns c = c .before .loop .inv .1
+
+pub mark-labels-spec : {M : Type 1} → statement M
+mark-labels-spec =
+    tie.close
+    (tie.spec
+    Inv-loop
+    μ-loop
+    loop-holds
+    mul-l
+    element-copy-out-l
+    cast-l
+    element-write-used
+    add-s
+    loop-less
+    loop-again
+    returns)
