@@ -1,4 +1,4 @@
--- No second answer fits the containment call, nor its verdict alone. Assumes nothing.
+-- No second answer fits the containment call, nor that on equality. Assumes nothing.
 use Prim.Native.Nat.{ℕ}
 use mathlib.Core.Path.{_≡_, refl, sym, ap, ap₂, _∙_}
 use mathlib.Core.List.{List, _++_, map}
@@ -16,10 +16,10 @@ use Rattle.containment.specs.Containment.{stepNo, mappingArray, containm
 use Rattle.containment.specs.declared.Containment.{Containment}
 use Rattle.containment.specs.declared.Containment.the-variants as containment
 use Rattle.containment.specs.declared.ContainmentAnswer.{ContainmentAnswer}
-use Rattle.containment.specs.Verdict.{verdictChecks, AnswersVerdict, Decides}
-use Rattle.containment.specs.declared.Verdict.{Verdict}
-use Rattle.containment.specs.declared.Verdict.the-variants as verdict
-use Rattle.containment.specs.declared.VerdictAnswer.{VerdictAnswer}
+use Rattle.containment.specs.Verdict.{verdictChecks}
+use Rattle.containment.specs.Equality.{DecidesEquality}
+use Rattle.containment.specs.declared.Equality.{Equality}
+use Rattle.containment.specs.declared.Equality.the-variants as equality
 use Rattle.containment.proofs.Deciding.{least-map-unique}
 use Rattle.containment.proofs.FreshLabel.{fresh-unique}
 
@@ -66,19 +66,14 @@ containment-unique A B parents₀ labels₀ r q parents labels parents′ labels
     let s = answers-unique A B parents₀ labels₀ parents labels parents′ labels′ (r .answer) (q .answer) (r .mapping) (q .mapping) h k in
     (ap₂ (λ (a : Containment) (m : List StepNo). record { answer = a; mapping = m }) (s .0) (s .1), s .2, s .3)
 
-verdicts-unique : (A B : Pattern) (a b : Verdict) (m n : List StepNo) → AnswersVerdict A B a m → AnswersVerdict A B b n → (a ≡ b) × (m ≡ n)
-verdicts-unique A B verdict.Contained verdict.Contained m n h k = (refl, within-unique A B m n (h .1) (k .1))
-verdicts-unique A B verdict.Contained verdict.Apart m n h k = absurd (k .1 (h .1 .contained))
-verdicts-unique A B verdict.Contained (verdict.Refused q) m n h k = absurd (refuses-not-passes (verdictChecks A B) q (k .0) (h .0))
-verdicts-unique A B verdict.Apart verdict.Contained m n h k = absurd (h .1 (k .1 .contained))
-verdicts-unique A B verdict.Apart verdict.Apart m n h k = (refl, h .2 ∙ sym (k .2))
-verdicts-unique A B verdict.Apart (verdict.Refused q) m n h k = absurd (refuses-not-passes (verdictChecks A B) q (k .0) (h .0))
-verdicts-unique A B (verdict.Refused r) verdict.Contained m n h k = absurd (refuses-not-passes (verdictChecks A B) r (h .0) (k .0))
-verdicts-unique A B (verdict.Refused r) verdict.Apart m n h k = absurd (refuses-not-passes (verdictChecks A B) r (h .0) (k .0))
-verdicts-unique A B (verdict.Refused r) (verdict.Refused q) m n h k = (ap verdict.Refused (refuses-unique (verdictChecks A B) r q (h .0) (k .0)), h .1 ∙ sym (k .1))
-
--- two verdicts on one pair are one
-pub decides-unique : (A B : Pattern) (r q : VerdictAnswer) → Decides A B r → Decides A B q → r ≡ q
-decides-unique A B r q h k =
-    let s = verdicts-unique A B (r .answer) (q .answer) (r .mapping) (q .mapping) h k in
-    ap₂ (λ (a : Verdict) (m : List StepNo). record { answer = a; mapping = m }) (s .0) (s .1)
+-- two answers on the equality of one pair are one
+pub equality-unique : (A B : Pattern) (r q : Equality) → DecidesEquality A B r → DecidesEquality A B q → r ≡ q
+equality-unique A B equality.Equal equality.Equal h k = refl
+equality-unique A B equality.Equal equality.Different h k = absurd (k .1 (h .1))
+equality-unique A B equality.Equal (equality.Refused q) h k = absurd (refuses-not-passes (verdictChecks A B) q k (h .0))
+equality-unique A B equality.Different equality.Equal h k = absurd (h .1 (k .1))
+equality-unique A B equality.Different equality.Different h k = refl
+equality-unique A B equality.Different (equality.Refused q) h k = absurd (refuses-not-passes (verdictChecks A B) q k (h .0))
+equality-unique A B (equality.Refused r) equality.Equal h k = absurd (refuses-not-passes (verdictChecks A B) r h (k .0))
+equality-unique A B (equality.Refused r) equality.Different h k = absurd (refuses-not-passes (verdictChecks A B) r h (k .0))
+equality-unique A B (equality.Refused r) (equality.Refused q) h k = ap equality.Refused (refuses-unique (verdictChecks A B) r q h k)

@@ -1,8 +1,9 @@
 -- What the table of fits, the smallest mapping and the checks say of containment. Assumes nothing.
 use Prim.Native.Nat.{ℕ, _<_}
-use mathlib.Core.Path.{_≡_, refl, subst}
+use mathlib.Core.Path.{_≡_, refl, sym, subst}
 use mathlib.Core.Logic.{_⊎_, inl, inr, ⊎-elim}
 use mathlib.Core.List.{List}
+use native.Mathlib.Omega.{arith}
 use lib.ListN.{getD}
 use Rattle.tables.specs.Bits.{bit}
 use Rattle.tables.specs.Checks.{ChecksPattern}
@@ -12,7 +13,8 @@ use Rattle.tables.specs.declared.Checked.the-variants as checked
 use Rattle.tables.specs.declared.Pattern.{Pattern}
 use Rattle.tables.specs.declared.Refusal.{Refusal}
 use Rattle.tables.specs.declared.StepNo.{StepNo}
-use Rattle.tables.proofs.Trees.{from-here}
+use Rattle.tables.proofs.Rules.{shape-ordered}
+use Rattle.tables.proofs.Trees.{from-here, from-root, parent-lt}
 use Rattle.containment.specs.Mapping.{BeginsIn, Maps, Contained}
 use Rattle.containment.specs.Containment.{mappingArray, Within}
 use Rattle.containment.specs.Verdict.{verdictChecks, Decides}
@@ -20,7 +22,7 @@ use Rattle.containment.specs.declared.Verdict.the-variants as verdict
 use Rattle.containment.specs.declared.VerdictAnswer.{VerdictAnswer}
 use Rattle.containment.specs.Feasible.{FitsIn, FitTable, Picks, Chosen}
 use Rattle.containment.proofs.Contained.{contained-iff}
-use Rattle.containment.proofs.Images.{pick-to, pick-none}
+use Rattle.containment.proofs.Images.{pick-to, pick-none, pick-found, pick-below}
 
 module _ (A B : Shape) (va : ValidShape A) (vb : ValidShape B) where
   -- a step of A at which a step of B fits
@@ -49,7 +51,26 @@ module _ (A B : Shape) (va : ValidShape A) (vb : ValidShape B) where
   pub not-contained : (r : ℕ) → r ≡ 64 → Picks (λ j. BeginsIn B A j × FitsIn B A j 0) r → Contained A B → ⊥
   not-contained r e p h = let w = contained-iff A B va vb .0 h in pick-none p e (w .0 0) (w .1 .first, maps-fits (w .0) (w .1))
 
-  -- and the smallest mapping shows that it is
+  -- a step of B that fits with step 0 is sent with all the others
+  fits-maps : (j : ℕ) → BeginsIn B A j → FitsIn B A j 0 → (m : ℕ → ℕ) × Maps B A m
+  fits-maps j b f =
+      let o = shape-ordered vb in (
+        f .by,
+        record {
+          sends = record {
+            takes = λ t h. f .sends .takes t (from-root o t h);
+            edge = λ t q c. f .sends .edge t q c (from-root o q (omega (arith, parent-lt o t (c .late) (c .here), c .up, c .here)));
+          };
+          first = subst (BeginsIn B A) (sym (f .sends .at)) b;
+          output = f .output (from-root o (B .output) (vb .output));
+        },
+      )
+
+  -- where a step may, it is
+  pub picked-contained : (r : ℕ) → (r ≡ 64 → ⊥) → Picks (λ j. BeginsIn B A j × FitsIn B A j 0) r → Contained A B
+  picked-contained r n p = let w = pick-found p (pick-below p n) .0 in contained-iff A B va vb .1 (fits-maps r (w .0) (w .1))
+
+  -- and the smallest mapping shows it
   pub chosen-contained : (m : List StepNo) → Chosen B A m → Contained A B
   chosen-contained m h = contained-iff A B va vb .1 (h .by, h .least .maps)
 

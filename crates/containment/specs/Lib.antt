@@ -3,5 +3,6 @@ pub mod Mapping
 pub mod Witness
 pub mod Containment
 pub mod Verdict
+pub mod Equality
 pub mod Feasible
 pub mod Lookup

@@ -1,12 +1,14 @@
 // Containment of one pattern in another (docs/RULES.md, "Containment").
 ghost use Prim.Native.Nat.{ℕ, _≤_};
 ghost use mathlib.Core.Path.{_≡_};
-ghost use mathlib.Core.Logic.{_⊎_};
+ghost use mathlib.Core.Logic.{_⊎_, _↔_};
 ghost use mathlib.Core.Bool.{false};
 ghost use lib.Dec.{T};
 ghost use lib.ListN.{getD};
 ghost use Rattle.tables.specs.Pattern.{shapeOf, ValidPattern};
+ghost use Rattle.containment.specs.Mapping.{Contained};
 ghost use Rattle.containment.specs.Containment.{mappingArray, DecidesContainment};
+ghost use Rattle.containment.specs.Equality.{DecidesEquality};
 ghost use Rattle.containment.specs.Verdict.{Decides};
 ghost use Rattle.containment.specs.Witness.{Stands};
 ghost use Rattle.containment.specs.Feasible.{FreshOr0};
@@ -35,16 +37,23 @@ pub struct ContainmentAnswer {
 }
 
 // Contained, apart or refused: the verdict alone, with no witness.
-pub enum Verdict {
+enum Verdict {
     Contained,
     Apart,
     Refused(Refusal),
 }
 
 // The verdict, and beside it the mapping, all zero where the verdict is not `Contained`.
-pub struct VerdictAnswer {
-    pub answer: Verdict,
-    pub mapping: [StepNo; 64],
+struct VerdictAnswer {
+    answer: Verdict,
+    mapping: [StepNo; 64],
+}
+
+// Whether two patterns have the same answers on every document, or the refusal.
+pub enum Equality {
+    Equal,
+    Different,
+    Refused(Refusal),
 }
 
 // Marks the labels of a below 256 in a table.
@@ -103,6 +112,36 @@ fn fresh(a: Pattern, b: Pattern) -> u16
     found
 }
 
+// Is a contained in b, where both obey the rules: does b map into a?
+fn within(a: Pattern, b: Pattern) -> bool
+    requires { ⌜ ValidPattern a × ValidPattern b ⌝ }
+    ensures { λ r. ⌜ T r ↔ Contained (shapeOf a) (shapeOf b) ⌝ }
+{
+    let mut fit = [0u64; 64];
+    fitting::lift(a, b, &mut fit);
+    choosing::first_image(a, b.axis[0], &fit) != 64
+}
+
+// Do a and b have the same answers on every document? Equal, where each is contained in the other; or different. Refused by BadPattern if a breaks the rules,
+// then if b does.
+pub fn equal(a: Pattern, b: Pattern) -> Equality
+    ensures { λ r. ⌜ DecidesEquality a b r ⌝ }
+{
+    if let Checked::Refused(r) = tables::check_pattern(a) {
+        return Equality::Refused(r);
+    }
+    if let Checked::Refused(r) = tables::check_pattern(b) {
+        return Equality::Refused(r);
+    }
+    if !within(a, b) {
+        return Equality::Different;
+    }
+    if !within(b, a) {
+        return Equality::Different;
+    }
+    Equality::Equal
+}
+
 // The verdict with no mapping.
 fn unmapped(answer: Verdict) -> VerdictAnswer
     ensures { λ r. ⌜ (r .answer ≡ answer) × (r .mapping ≡ mappingArray (λ t. 0) 0) ⌝ }
@@ -133,7 +172,7 @@ fn compare(a: Pattern, b: Pattern) -> VerdictAnswer
 
 // Is a contained in b: is each answer of a, on every document, an answer of b? Contained, with the smallest mapping of b into a; or apart, where b does not
 // map into a. Refused by BadPattern if a breaks the rules, then if b does.
-pub fn decide(a: Pattern, b: Pattern) -> VerdictAnswer
+fn decide(a: Pattern, b: Pattern) -> VerdictAnswer
     ensures { λ r. ⌜ Decides a b r ⌝ }
 {
     if let Checked::Refused(r) = tables::check_pattern(a) {

@@ -7,11 +7,11 @@ ghost use lib.ListN.{length, getD};
 ghost use Rattle.tables.specs.Tree.{From};
 ghost use Rattle.tables.specs.Pattern.{Shape, shapeOf, patternOf, zeroPattern, ValidPattern};
 ghost use Rattle.tables.specs.declared.Pattern.{Pattern};
-ghost use Rattle.containment.specs.Mapping.{Contained, Equal};
+ghost use Rattle.containment.specs.Mapping.{Equal};
 ghost use Rattle.joining.specs.Join.{joinOf, Joinable};
 ghost use Rattle.rewriting.specs.Candidate.{mainPath, Cut, Candidate};
 ghost use Rattle.rewriting.specs.Rewriting.{Rewrites};
-use containment::Verdict;
+use containment::Equality;
 use tables::Checked;
 use tables::Pattern;
 use tables::Refusal;
@@ -137,20 +137,6 @@ fn candidate(q: Pattern, v: Pattern) -> Found
     }
 }
 
-// Is one pattern contained in another?
-fn within(a: Pattern, b: Pattern) -> bool
-    requires { ⌜ ValidPattern a ⌝ }
-    requires { ⌜ ValidPattern b ⌝ }
-    ensures { λ r. ⌜ T r ↔ Contained (shapeOf a) (shapeOf b) ⌝ }
-{
-    let verdict = containment::decide(a, b).answer;
-    match verdict {
-        Verdict::Contained => true,
-        Verdict::Apart => false,
-        Verdict::Refused(_) => false,
-    }
-}
-
 // Is the join of a view and a compensation, which can be joined, equal to a query?
 fn serves(q: Pattern, v: Pattern, e: Pattern) -> bool
     requires { ⌜ ValidPattern q ⌝ }
@@ -158,10 +144,12 @@ fn serves(q: Pattern, v: Pattern, e: Pattern) -> bool
     ensures { λ r. ⌜ T r ↔ Equal (shapeOf (joinOf v e)) (shapeOf q) ⌝ }
 {
     let j = joining::join(v, e).pattern;
-    if !within(j, q) {
-        return false;
+    let equality = containment::equal(j, q);
+    match equality {
+        Equality::Equal => true,
+        Equality::Different => false,
+        Equality::Refused(_) => false,
     }
-    within(q, j)
 }
 
 // An answer with the zero pattern beside it.

@@ -1,8 +1,10 @@
--- `rewriting::serves` meets its contract: the join in the query, and the query in the join. Assumes nothing.
+-- `rewriting::serves` meets its contract: what is said of the join and the query, never a refusal. Assumes nothing.
 use mathlib.Core.Path.{_≡_, sym, subst}
-use Rattle.tables.specs.Pattern.{shapeOf, ValidPattern}
-use Rattle.tables.proofs.Tests.{passed, failed}
-use Rattle.containment.specs.Mapping.{Contained}
+use Rattle.tables.specs.Pattern.{ValidPattern}
+use Rattle.tables.proofs.Refusals.{refuses-not-passes}
+use Rattle.containment.specs.Verdict.{verdictChecks}
+use Rattle.containment.specs.Equality.{DecidesEquality}
+use Rattle.containment.specs.declared.Equality.{Equality}
 use Rattle.joining.specs.Join.{joinOf}
 use Rattle.joining.proofs.Called.{called-accepts, called-gives}
 use Rattle.joining.proofs.Order.{join-valid}
@@ -17,36 +19,44 @@ joined x =
     called-gives (a .v) (a .e) (x .join .result) (x .join .ensures) (called-accepts (a .v) (a .e) (x .join .result) (x .join .ensures) .1 (x .before .pre .1))
 
 -- and it obeys the rules
-valid : (x : tie.After-join) → ValidPattern (x .join .result .pattern)
-valid x = subst ValidPattern (sym (joined x)) (join-valid (x .before .args .v) (x .before .args .e) (x .before .pre .1))
+valid : (x : tie.After-join) → ValidPattern (joinOf (x .before .args .v) (x .before .args .e))
+valid x = join-valid (x .before .args .v) (x .before .args .e) (x .before .pre .1)
+
+-- what is said of the join and the query
+told : (x : tie.After-equal) (r : Equality) → x .equal .result ≡ r → DecidesEquality (joinOf (x .before .before .before .args .v) (x .before .before .before .args .e)) (x .before .before .before .args .q) r
+told x r e =
+    let a = x .before .before .before .args in
+    subst (λ p. DecidesEquality p (a .q) r) (joined (x .before .before)) (subst (DecidesEquality (x .before .before .join .result .pattern) (a .q)) e (x .equal .ensures))
 
 join-requires : tie.Need-join-requires
 join-requires c κs = search needs
 
-within-requires : tie.Need-within-requires
-within-requires c κs = search (needs, valid (c .before))
+equal-requires : tie.Need-equal-requires
+equal-requires c κs = search needs
+
+enum-told : tie.Need-enum-told
+enum-told c = search needs
+
+enum-told-2 : tie.Need-enum-told-2
+enum-told-2 c = search needs
+
+enum-told-3 : tie.Need-enum-told-3
+enum-told-3 c = search needs
 
 returns : tie.Need-returns
-returns c =
-    let w = c .before .within in
-    let x = c .before .before .before in
-    (λ t. absurd t, λ e. failed (w .result) (c .if1 .taken) (w .ensures .1 (subst (λ p. Contained (shapeOf p) (shapeOf (x .before .args .q))) (sym (joined x)) (e .to))))
-
-within-requires-2 : tie.Need-within-requires-2
-within-requires-2 c κs = search (needs, valid (c .before .before .before))
+returns c = (λ t. told (c .before .before) _ (c .enum-told .given .1) .1, λ h. tt)
 
 returns-2 : tie.Need-returns-2
-returns-2 c =
-    let w = c .before .before .within in
-    let x = c .before .before .before .before in
-    let q = x .before .args .q in (
-      λ t. record {
-        to = subst (λ p. Contained (shapeOf p) (shapeOf q)) (joined x) (w .ensures .0 (passed (w .result) (c .before .if1 .left)));
-        back = subst (λ p. Contained (shapeOf q) (shapeOf p)) (joined x) (c .within2 .ensures .0 t);
-      },
-      λ e. c .within2 .ensures .1 (subst (λ p. Contained (shapeOf q) (shapeOf p)) (sym (joined x)) (e .back)),
+returns-2 c = (λ t. absurd t, told (c .before .before) _ (c .enum-told2 .given .1) .1)
+
+returns-3 : tie.Need-returns-3
+returns-3 c =
+    let s = c .before .before .before .before .before in
+    let a = s .args in (
+      λ t. absurd t,
+      λ h. refuses-not-passes (verdictChecks (joinOf (a .v) (a .e)) (a .q)) (c .enum-told3 .given .0 .0) (told (c .before .before) _ (c .enum-told3 .given .1)) (valid (c .before .before .before .before), (s .pre .0, tt)),
     )
 
 pub serves-spec : {M : Type 1} → statement M
 serves-spec =
-    tie.close (tie.spec join-requires within-requires returns within-requires-2 returns-2)
+    tie.close (tie.spec join-requires equal-requires enum-told enum-told-2 enum-told-3 returns returns-2 returns-3)

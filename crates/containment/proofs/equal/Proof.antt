@@ -1,0 +1,87 @@
+-- `containment::equal` meets its contract: both patterns are checked, then each is sought in the other. Assumes nothing.
+use mathlib.Core.Path.{subst}
+use Rattle.tables.specs.Checks.{ChecksPattern}
+use Rattle.tables.specs.Pattern.{ValidPattern}
+use Rattle.tables.proofs.Tests.{passed, failed}
+use Rattle.containment.proofs.Verdicts.{first-refused, second-refused}
+use borrow.Author.Needs.{needs}
+use Rattle.containment.proofs.equal.Statement.{statement}
+use Rattle.containment.proofs.equal.Tie as tie
+
+-- past the first test the first pattern obeys the rules
+valid : (x : tie.After-enum-told) → ValidPattern (x .before .before .before .args .a)
+valid x = subst (ChecksPattern (x .before .before .before .args .a)) (x .enum-told .given .1) (x .before .before .check-pattern .ensures) .0 .0
+
+-- past the second the second does
+valid-2 : (x : tie.After-enum-told2) → ValidPattern (x .before .before .before .before .before .before .args .b)
+valid-2 x = subst (ChecksPattern (x .before .before .before .before .before .before .args .b)) (x .enum-told2 .given .1) (x .before .before .check-pattern2 .ensures) .0 .0
+
+check-pattern-requires : tie.Need-check-pattern-requires
+check-pattern-requires c κs = search needs
+
+enum-known-r : tie.Need-enum-known-r
+enum-known-r c = search needs
+
+returns : tie.Need-returns
+returns c =
+    let a = c .before .before .before .before .args in
+    first-refused (a .a) (a .b) (c .before .r .given .0 .0) (subst (ChecksPattern (a .a)) (c .before .r .given .1) (c .before .before .before .check-pattern .ensures))
+
+enum-told : tie.Need-enum-told
+enum-told c = search needs
+
+check-pattern-requires-2 : tie.Need-check-pattern-requires-2
+check-pattern-requires-2 c κs = search needs
+
+enum-known-r-2 : tie.Need-enum-known-r-2
+enum-known-r-2 c = search needs
+
+returns-2 : tie.Need-returns-2
+returns-2 c =
+    let a = c .before .before .before .before .before .before .before .args in
+    second-refused (a .a) (a .b) (c .before .r2 .given .0 .0) (valid (c .before .before .before .before)) (subst (ChecksPattern (a .b)) (c .before .r2 .given .1) (c .before .before .before .check-pattern2 .ensures))
+
+enum-told-2 : tie.Need-enum-told-2
+enum-told-2 c = search needs
+
+within-requires : tie.Need-within-requires
+within-requires c κs = (valid (c .before .before .before), valid-2 c)
+
+returns-3 : tie.Need-returns-3
+returns-3 c =
+    let w = c .before .within in
+    ((valid (c .before .before .before .before .before), (valid-2 (c .before .before), tt)), λ e. failed (w .result) (c .if1 .taken) (w .ensures .1 (e .to)))
+
+within-requires-2 : tie.Need-within-requires-2
+within-requires-2 c κs = (valid-2 (c .before .before), valid (c .before .before .before .before .before))
+
+returns-4 : tie.Need-returns-4
+returns-4 c =
+    let w = c .before .within2 in
+    ((valid (c .before .before .before .before .before .before .before), (valid-2 (c .before .before .before .before), tt)), λ e. failed (w .result) (c .if2 .taken) (w .ensures .1 (e .back)))
+
+returns-5 : tie.Need-returns-5
+returns-5 c =
+    let w = c .before .before .before .within in
+    let b = c .before .within2 in (
+      (valid (c .before .before .before .before .before .before .before), (valid-2 (c .before .before .before .before), tt)),
+      record { to = w .ensures .0 (passed (w .result) (c .before .before .if1 .left)); back = b .ensures .0 (passed (b .result) (c .if2 .left)) },
+    )
+
+pub equal-spec : {M : Type 1} → statement M
+equal-spec =
+    tie.close
+    (tie.spec
+    check-pattern-requires
+    enum-known-r
+    returns
+    enum-told
+    check-pattern-requires-2
+    enum-known-r-2
+    returns-2
+    enum-told-2
+    within-requires
+    returns-3
+    within-requires-2
+    returns-4
+    returns-5)
