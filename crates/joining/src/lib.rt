@@ -1,9 +1,8 @@
 // Joining a compensation to a view (docs/RULES.md, "Join").
-ghost use Prim.Native.Nat.{_+_, _<_};
 ghost use mathlib.Core.Path.{_≡_};
-ghost use Rattle.tables.specs.Pattern.{shapeOf, zeroPattern};
+ghost use Rattle.tables.specs.Pattern.{zeroPattern};
 ghost use Rattle.tables.specs.declared.Checked.the-variants.{Refused};
-ghost use Rattle.joining.specs.Join.{added, joinShape, joinOf, Joinable, Joins};
+ghost use Rattle.joining.specs.Join.{joinOf, Joinable, Joins};
 use tables::Checked;
 use tables::Pattern;
 use tables::Refusal;
@@ -15,69 +14,46 @@ pub struct JoinAnswer {
     pub pattern: Pattern,
 }
 
-// One step of a pattern.
-struct Step {
-    parent: u8,
-    axis: u8,
-    label: u16,
-}
-
-// Step u of the join of a view and a compensation that can be joined.
-fn joined_step(v: Pattern, e: Pattern, u: usize) -> Step
-    requires { ⌜ Joinable v e ⌝ }
-    requires { ⌜ u < v .count + added (shapeOf e) ⌝ }
-    ensures { λ r.
-        ⌜ (r .parent ≡ joinShape (shapeOf v) (shapeOf e) .tree .parent u) × (r .axis ≡ joinShape (shapeOf v) (shapeOf e) .axis u)
-        × (r .label ≡ joinShape (shapeOf v) (shapeOf e) .label u) ⌝ }
-{
-    let o = v.output.0;
-    let more = e.count - 1;
-    if u <= o as usize {
-        return Step {
-            parent: v.parent[u],
-            axis: v.axis[u],
-            label: v.label[u],
-        };
-    }
-    if u <= o as usize + more {
-        let t = u - o as usize;
-        return Step {
-            parent: o + e.parent[t],
-            axis: e.axis[t],
-            label: e.label[t],
-        };
-    }
-    let s = u - more;
-    let mut p = v.parent[s];
-    if o < p {
-        p += more as u8;
-    }
-    Step {
-        parent: p,
-        axis: v.axis[s],
-        label: v.label[s],
-    }
-}
-
-// The join of a view and a compensation that can be joined: zeros past its steps.
+// The join of a view and a compensation that can be joined: the view's steps up to its output step, the compensation's past its first, and the view's others.
+// Zeros past its steps.
 fn join_table(v: Pattern, e: Pattern) -> Pattern
     requires { ⌜ Joinable v e ⌝ }
     ensures { λ r. ⌜ r ≡ joinOf v e ⌝ }
 {
-    let n = v.count + (e.count - 1);
+    let o = v.output.0;
+    let more = e.count - 1;
+    let n = v.count + more;
     let mut p = Pattern {
         parent: [0u8; 64],
         axis: [0u8; 64],
         label: [0u16; 64],
         count: n,
-        output: StepNo(v.output.0 + e.output.0),
+        output: StepNo(o + e.output.0),
     };
+    let last = o as usize;
     let mut u = 0;
+    while u <= last {
+        p.parent[u] = v.parent[u];
+        p.axis[u] = v.axis[u];
+        p.label[u] = v.label[u];
+        u += 1;
+    }
+    while u <= last + more {
+        let t = u - last;
+        p.parent[u] = o + e.parent[t];
+        p.axis[u] = e.axis[t];
+        p.label[u] = e.label[t];
+        u += 1;
+    }
     while u < n {
-        let s = joined_step(v, e, u);
-        p.parent[u] = s.parent;
-        p.axis[u] = s.axis;
-        p.label[u] = s.label;
+        let s = u - (e.count - 1);
+        let mut q = v.parent[s];
+        if o < q {
+            q += more as u8;
+        }
+        p.parent[u] = q;
+        p.axis[u] = v.axis[s];
+        p.label[u] = v.label[s];
         u += 1;
     }
     p

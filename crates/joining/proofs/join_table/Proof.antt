@@ -1,69 +1,277 @@
--- `joining::join_table` meets its contract: the steps before the one looked at are written. Assumes nothing.
-use Prim.Native.Nat.{_-_}
-use mathlib.Core.Path.{refl}
+-- `joining::join_table` meets its contract: the steps before the one looked at are written, in three loops, one for each part of the join. Assumes nothing.
+use Prim.Native.Nat.{ℕ, _+_, _-_, _≤_, _<_}
+use mathlib.Core.Path.{_≡_, refl, sym, _∙_}
+use mathlib.Core.Logic.{⊎-elim}
 use native.Mathlib.Omega.{arith}
-use Rattle.tables.specs.Pattern.{shapeOf, tableOf}
+use lib.ListN.{getD}
+use borrow.Author.Needs.{needs}
+use Rattle.tables.specs.Pattern.{Shape, shapeOf, tableOf, ValidPattern}
+use Rattle.tables.specs.declared.Pattern.{Pattern}
+use Rattle.tables.proofs.Trees.{parent-lt}
+use Rattle.tables.proofs.Rules.{shape-ordered}
 use Rattle.tables.proofs.Filling.{Filled, filled-none, filled-next, filled-all}
-use Rattle.joining.specs.Join.{joinShape, joinOf}
+use Rattle.joining.specs.Join.{renumber, joinShape, joinOf}
+use Rattle.joining.proofs.Parts.{renumber-low, renumber-high, part-front, part-middle, part-rest}
 use Rattle.joining.proofs.join_table.Statement.{statement}
 use Rattle.joining.proofs.join_table.Tie as tie
 
 abbrev Inv-loop : tie.InvT-loop
-Inv-loop v e n p₀ u₀ p u = Filled (joinShape (shapeOf v) (shapeOf e)) u p
+Inv-loop v e o more n p₀ last u₀ p u = (u ≤ last + 1) × Filled (joinShape (shapeOf v) (shapeOf e)) u p
 
 abbrev μ-loop : tie.MeasureT-loop
-μ-loop v e n p₀ u₀ p u = n - u
+μ-loop v e o more n p₀ last u₀ p u = last + 1 - u
 
-sub-n : tie.Need-sub-n Inv-loop μ-loop
-sub-n c = omega arith
+abbrev Inv-loop2 : tie.InvT-loop2
+Inv-loop2 v e o more n p₀ last u₀ p u = (last < u) × (u ≤ last + more + 1) × Filled (joinShape (shapeOf v) (shapeOf e)) u p
 
-add-n : tie.Need-add-n Inv-loop μ-loop
+abbrev μ-loop2 : tie.MeasureT-loop2
+μ-loop2 v e o more n p₀ last u₀ p u = last + more + 1 - u
+
+abbrev Inv-loop3 : tie.InvT-loop3
+Inv-loop3 v e o more n p₀ last u₀ p u = (last + more < u) × Filled (joinShape (shapeOf v) (shapeOf e)) u p
+
+abbrev μ-loop3 : tie.MeasureT-loop3
+μ-loop3 v e o more n p₀ last u₀ p u = n - u
+
+-- a later step's parent is a step before it
+before : (p : Pattern) → ValidPattern p → (s : ℕ) → 0 < s → s < p .count → getD (p .parent) s 0 < s
+before p v s = parent-lt (shape-ordered v) s
+
+sub-more : tie.Need-sub-more Inv-loop μ-loop Inv-loop2 μ-loop2 Inv-loop3 μ-loop3
+unfolding joinShape
+sub-more c = omega arith
+
+add-n : tie.Need-add-n Inv-loop μ-loop Inv-loop2 μ-loop2 Inv-loop3 μ-loop3
+unfolding joinShape
 add-n c = omega arith
 
-add-t11 : tie.Need-add-t11 Inv-loop μ-loop
-add-t11 c = omega arith
-
-loop-holds : tie.Need-loop-holds Inv-loop μ-loop
-unfolding joinShape tableOf
-loop-holds c = filled-none (joinShape (shapeOf (c .before .before .before .before .args .v)) (shapeOf (c .before .before .before .before .args .e))) _ _ refl refl (omega arith)
-
-joined-step-requires : tie.Need-joined-step-requires Inv-loop μ-loop
+add-t19 : tie.Need-add-t19 Inv-loop μ-loop Inv-loop2 μ-loop2 Inv-loop3 μ-loop3
 unfolding joinShape
-joined-step-requires c κs = (c .before .before .before .before .before .before .pre, omega arith)
+add-t19 c = omega arith
 
-element-write-p : tie.Need-element-write-p Inv-loop μ-loop
+cast-last : tie.Need-cast-last Inv-loop μ-loop Inv-loop2 μ-loop2 Inv-loop3 μ-loop3
+unfolding joinShape
+cast-last c = omega arith
+
+loop-holds : tie.Need-loop-holds Inv-loop μ-loop Inv-loop2 μ-loop2 Inv-loop3 μ-loop3
+unfolding joinShape tableOf
+loop-holds c = (omega arith, filled-none (joinShape (shapeOf (c .args .t1)) (shapeOf (c .args .t2))) _ _ refl refl (omega arith))
+
+element-copy-out-p :
+    tie.Need-element-copy-out-p Inv-loop μ-loop Inv-loop2 μ-loop2 Inv-loop3 μ-loop3
+unfolding joinShape
+element-copy-out-p c = omega arith
+
+element-write-p : tie.Need-element-write-p Inv-loop μ-loop Inv-loop2 μ-loop2 Inv-loop3 μ-loop3
 unfolding joinShape
 element-write-p c = omega arith
 
-element-write-p-2 : tie.Need-element-write-p-2 Inv-loop μ-loop
+element-copy-out-p-2 :
+    tie.Need-element-copy-out-p-2 Inv-loop μ-loop Inv-loop2 μ-loop2 Inv-loop3 μ-loop3
+unfolding joinShape
+element-copy-out-p-2 c = omega arith
+
+element-write-p-2 : tie.Need-element-write-p-2 Inv-loop μ-loop Inv-loop2 μ-loop2 Inv-loop3 μ-loop3
 unfolding joinShape
 element-write-p-2 c = omega arith
 
-mul-p : tie.Need-mul-p Inv-loop μ-loop
+mul-p : tie.Need-mul-p Inv-loop μ-loop Inv-loop2 μ-loop2 Inv-loop3 μ-loop3
 unfolding joinShape
 mul-p c = omega arith
 
-element-write-p-3 : tie.Need-element-write-p-3 Inv-loop μ-loop
+element-copy-out-p-3 :
+    tie.Need-element-copy-out-p-3 Inv-loop μ-loop Inv-loop2 μ-loop2 Inv-loop3 μ-loop3
+unfolding joinShape
+element-copy-out-p-3 c = omega arith
+
+mul-p-2 : tie.Need-mul-p-2 Inv-loop μ-loop Inv-loop2 μ-loop2 Inv-loop3 μ-loop3
+unfolding joinShape
+mul-p-2 c = omega arith
+
+element-write-p-3 : tie.Need-element-write-p-3 Inv-loop μ-loop Inv-loop2 μ-loop2 Inv-loop3 μ-loop3
 unfolding joinShape
 element-write-p-3 c = omega arith
 
-add-u : tie.Need-add-u Inv-loop μ-loop
+add-u : tie.Need-add-u Inv-loop μ-loop Inv-loop2 μ-loop2 Inv-loop3 μ-loop3
 unfolding joinShape
 add-u c = omega arith
 
-loop-less : tie.Need-loop-less Inv-loop μ-loop
+loop-less : tie.Need-loop-less Inv-loop μ-loop Inv-loop2 μ-loop2 Inv-loop3 μ-loop3
 unfolding joinShape
 loop-less c = omega arith
 
-loop-again : tie.Need-loop-again Inv-loop μ-loop
+loop-again : tie.Need-loop-again Inv-loop μ-loop Inv-loop2 μ-loop2 Inv-loop3 μ-loop3
 unfolding joinShape
 loop-again c =
-    let j = c .joined-step .ensures in
-    filled-next (c .joined-step .result .parent) (c .joined-step .result .axis) (c .joined-step .result .label) (c .before .before .loop .inv) (omega arith) (j .0) (j .1) (j .2)
+    let m = c .before .before .before .before in
+    let v = m .before .args .t1 in
+    let u : ℕ = m .loop .u in
+    let l = c .before .before .before .loop-test .taken in (
+      omega arith,
+      filled-next (getD (v .parent) u 0) (getD (v .axis) u 0) (getD (v .label) u 0) (m .loop .inv .1) (omega arith)
+          (sym (part-front _ _ _ _ _ _ l)) (sym (part-front _ _ _ _ _ _ l)) (sym (part-front _ _ _ _ _ _ l)),
+    )
 
-returns : tie.Need-returns Inv-loop μ-loop
+loop2-holds : tie.Need-loop2-holds Inv-loop μ-loop Inv-loop2 μ-loop2 Inv-loop3 μ-loop3
+unfolding joinShape
+loop2-holds c = (omega arith, omega arith, c .before .loop .inv .1)
+
+add-loop2 : tie.Need-add-loop2 Inv-loop μ-loop Inv-loop2 μ-loop2 Inv-loop3 μ-loop3
+unfolding joinShape
+add-loop2 c = omega arith
+
+sub-t : tie.Need-sub-t Inv-loop μ-loop Inv-loop2 μ-loop2 Inv-loop3 μ-loop3
+unfolding joinShape
+sub-t c = omega arith
+
+element-copy-out-p-4 :
+    tie.Need-element-copy-out-p-4 Inv-loop μ-loop Inv-loop2 μ-loop2 Inv-loop3 μ-loop3
+unfolding joinShape
+element-copy-out-p-4 c = omega arith
+
+add-p : tie.Need-add-p Inv-loop μ-loop Inv-loop2 μ-loop2 Inv-loop3 μ-loop3
+unfolding joinShape
+add-p c =
+    let s = c .before .before .before .before .before in
+    omega (arith, before (s .args .t2) (s .pre .1 .0) (c .before .before .loop2 .u - s .args .t1 .output .0) (omega arith) (omega arith))
+
+element-write-p-4 : tie.Need-element-write-p-4 Inv-loop μ-loop Inv-loop2 μ-loop2 Inv-loop3 μ-loop3
+unfolding joinShape
+element-write-p-4 c = omega arith
+
+element-copy-out-p-5 :
+    tie.Need-element-copy-out-p-5 Inv-loop μ-loop Inv-loop2 μ-loop2 Inv-loop3 μ-loop3
+unfolding joinShape
+element-copy-out-p-5 c = omega arith
+
+element-write-p-5 : tie.Need-element-write-p-5 Inv-loop μ-loop Inv-loop2 μ-loop2 Inv-loop3 μ-loop3
+unfolding joinShape
+element-write-p-5 c = omega arith
+
+mul-p-3 : tie.Need-mul-p-3 Inv-loop μ-loop Inv-loop2 μ-loop2 Inv-loop3 μ-loop3
+unfolding joinShape
+mul-p-3 c = omega arith
+
+element-copy-out-p-6 :
+    tie.Need-element-copy-out-p-6 Inv-loop μ-loop Inv-loop2 μ-loop2 Inv-loop3 μ-loop3
+unfolding joinShape
+element-copy-out-p-6 c = omega arith
+
+mul-p-4 : tie.Need-mul-p-4 Inv-loop μ-loop Inv-loop2 μ-loop2 Inv-loop3 μ-loop3
+unfolding joinShape
+mul-p-4 c = omega arith
+
+element-write-p-6 : tie.Need-element-write-p-6 Inv-loop μ-loop Inv-loop2 μ-loop2 Inv-loop3 μ-loop3
+unfolding joinShape
+element-write-p-6 c = omega arith
+
+add-u-2 : tie.Need-add-u-2 Inv-loop μ-loop Inv-loop2 μ-loop2 Inv-loop3 μ-loop3
+unfolding joinShape
+add-u-2 c = omega arith
+
+loop2-less : tie.Need-loop2-less Inv-loop μ-loop Inv-loop2 μ-loop2 Inv-loop3 μ-loop3
+unfolding joinShape
+loop2-less c = omega arith
+
+loop2-again : tie.Need-loop2-again Inv-loop μ-loop Inv-loop2 μ-loop2 Inv-loop3 μ-loop3
+unfolding joinShape
+loop2-again c =
+    let m = c .before .before .before .before in
+    let v = m .before .before .before .args .t1 in
+    let e = m .before .before .before .args .t2 in
+    let t : ℕ = m .loop2 .u - v .output .0 in
+    let l = m .loop2 .inv .0 in
+    let h = c .before .before .before .loop2-test .taken in (
+      omega arith,
+      omega arith,
+      filled-next (v .output .0 + getD (e .parent) t 0) (getD (e .axis) t 0) (getD (e .label) t 0) (m .loop2 .inv .2) (omega arith)
+          (sym (part-middle _ _ _ _ _ _ l h)) (sym (part-middle _ _ _ _ _ _ l h)) (sym (part-middle _ _ _ _ _ _ l h)),
+    )
+
+loop3-holds : tie.Need-loop3-holds Inv-loop μ-loop Inv-loop2 μ-loop2 Inv-loop3 μ-loop3
+unfolding joinShape
+loop3-holds c = (omega arith, c .before .loop2 .inv .2)
+
+sub-s : tie.Need-sub-s Inv-loop μ-loop Inv-loop2 μ-loop2 Inv-loop3 μ-loop3
+unfolding joinShape
+sub-s c = omega arith
+
+sub-s-2 : tie.Need-sub-s-2 Inv-loop μ-loop Inv-loop2 μ-loop2 Inv-loop3 μ-loop3
+unfolding joinShape
+sub-s-2 c = omega arith
+
+element-copy-out-q :
+    tie.Need-element-copy-out-q Inv-loop μ-loop Inv-loop2 μ-loop2 Inv-loop3 μ-loop3
+unfolding joinShape
+element-copy-out-q c = omega arith
+
+cast-q : tie.Need-cast-q Inv-loop μ-loop Inv-loop2 μ-loop2 Inv-loop3 μ-loop3
+unfolding joinShape
+cast-q c = omega arith
+
+add-q : tie.Need-add-q Inv-loop μ-loop Inv-loop2 μ-loop2 Inv-loop3 μ-loop3
+unfolding joinShape
+add-q c =
+    let s = c .before .before .before .before .before .before .before .before in
+    omega (arith, before (s .args .t1) (s .pre .0) (c .before .before .before .loop3 .u - (s .args .t2 .count - 1)) (omega arith) (omega arith))
+
+element-write-p-7 : tie.Need-element-write-p-7 Inv-loop μ-loop Inv-loop2 μ-loop2 Inv-loop3 μ-loop3
+unfolding joinShape
+element-write-p-7 c = omega arith
+
+element-copy-out-p-7 :
+    tie.Need-element-copy-out-p-7 Inv-loop μ-loop Inv-loop2 μ-loop2 Inv-loop3 μ-loop3
+unfolding joinShape
+element-copy-out-p-7 c = omega arith
+
+element-write-p-8 : tie.Need-element-write-p-8 Inv-loop μ-loop Inv-loop2 μ-loop2 Inv-loop3 μ-loop3
+unfolding joinShape
+element-write-p-8 c = omega arith
+
+mul-p-5 : tie.Need-mul-p-5 Inv-loop μ-loop Inv-loop2 μ-loop2 Inv-loop3 μ-loop3
+unfolding joinShape
+mul-p-5 c = omega arith
+
+element-copy-out-p-8 :
+    tie.Need-element-copy-out-p-8 Inv-loop μ-loop Inv-loop2 μ-loop2 Inv-loop3 μ-loop3
+unfolding joinShape
+element-copy-out-p-8 c = omega arith
+
+mul-p-6 : tie.Need-mul-p-6 Inv-loop μ-loop Inv-loop2 μ-loop2 Inv-loop3 μ-loop3
+unfolding joinShape
+mul-p-6 c = omega arith
+
+element-write-p-9 : tie.Need-element-write-p-9 Inv-loop μ-loop Inv-loop2 μ-loop2 Inv-loop3 μ-loop3
+unfolding joinShape
+element-write-p-9 c = omega arith
+
+add-u-3 : tie.Need-add-u-3 Inv-loop μ-loop Inv-loop2 μ-loop2 Inv-loop3 μ-loop3
+unfolding joinShape
+add-u-3 c = omega arith
+
+loop3-less : tie.Need-loop3-less Inv-loop μ-loop Inv-loop2 μ-loop2 Inv-loop3 μ-loop3
+unfolding joinShape
+loop3-less c = omega arith
+
+loop3-again : tie.Need-loop3-again Inv-loop μ-loop Inv-loop2 μ-loop2 Inv-loop3 μ-loop3
+unfolding joinShape
+loop3-again c =
+    let m = c .before .before .before .before .before in
+    let v = m .before .before .before .before .before .args .t1 in
+    let e : ℕ = m .before .before .before .before .before .args .t2 .count - 1 in
+    let o : ℕ = v .output .0 in
+    let s : ℕ = m .loop3 .u - e in
+    let q : ℕ = getD (v .parent) s 0 in
+    let l = m .loop3 .inv .0 in
+    let z : c .before .before .if1 .q ≡ renumber o e q = ⊎-elim (λ w. omega (arith, renumber-high o e q (omega arith))) (λ w. omega (arith, renumber-low o e q (omega arith))) (c .before .before .if1 .came) in (
+      omega arith,
+      filled-next (c .before .before .if1 .q) (getD (v .axis) s 0) (getD (v .label) s 0) (m .loop3 .inv .1) (omega arith)
+          (z ∙ sym (part-rest _ _ _ _ _ _ l)) (sym (part-rest _ _ _ _ _ _ l)) (sym (part-rest _ _ _ _ _ _ l)),
+    )
+
+returns : tie.Need-returns Inv-loop μ-loop Inv-loop2 μ-loop2 Inv-loop3 μ-loop3
 unfolding joinShape joinOf
-returns c = filled-all (c .before .loop .inv) (omega arith)
+returns c = filled-all (c .before .loop3 .inv .1) (omega arith)
 
 pub join-table-spec : {M : Type 1} → statement M
 join-table-spec =
@@ -71,16 +279,55 @@ join-table-spec =
     (tie.spec
     Inv-loop
     μ-loop
-    sub-n
+    Inv-loop2
+    μ-loop2
+    Inv-loop3
+    μ-loop3
+    sub-more
     add-n
-    add-t11
+    add-t19
+    cast-last
     loop-holds
-    joined-step-requires
+    element-copy-out-p
     element-write-p
+    element-copy-out-p-2
     element-write-p-2
     mul-p
+    element-copy-out-p-3
+    mul-p-2
     element-write-p-3
     add-u
     loop-less
     loop-again
+    loop2-holds
+    add-loop2
+    sub-t
+    element-copy-out-p-4
+    add-p
+    element-write-p-4
+    element-copy-out-p-5
+    element-write-p-5
+    mul-p-3
+    element-copy-out-p-6
+    mul-p-4
+    element-write-p-6
+    add-u-2
+    loop2-less
+    loop2-again
+    loop3-holds
+    sub-s
+    sub-s-2
+    element-copy-out-q
+    cast-q
+    add-q
+    element-write-p-7
+    element-copy-out-p-7
+    element-write-p-8
+    mul-p-5
+    element-copy-out-p-8
+    mul-p-6
+    element-write-p-9
+    add-u-3
+    loop3-less
+    loop3-again
     returns)
