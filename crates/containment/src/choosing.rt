@@ -1,7 +1,7 @@
 // The smallest mapping of one pattern, B, into another, A, from the table of the steps of B that fit at each step of A (docs/RULES.md, "Containment").
 ghost use mathlib.Core.Path.{_≡_};
 ghost use mathlib.Core.Logic.{_↔_};
-ghost use Prim.Native.Nat.{ℕ, _<_};
+ghost use Prim.Native.Nat.{ℕ, _≤_, _<_};
 ghost use lib.Dec.{T};
 ghost use lib.ListN.{getD};
 ghost use Rattle.tables.specs.Bits.{bit};
@@ -13,28 +13,28 @@ use crate::fitting;
 use tables::Pattern;
 use tables::StepNo;
 
-// How many of the first steps of a may take step 0 of a pattern, whose axis is `axis`.
-fn first_steps(a: Pattern, axis: u8) -> usize
-    requires { ⌜ ValidPattern a ⌝ }
-    ensures { λ r. ⌜ ((j : ℕ) → (j < r) ↔ ((j < a .count) × (axis ≡ 0 → (j ≡ 0) × (shapeOf a .axis 0 ≡ 0)))) ⌝ }
+// How many of the first of n steps may take step 0 of a pattern, whose axis is `axis`, where the first of them has axis `own`.
+fn first_steps(n: usize, own: u8, axis: u8) -> usize
+    requires { ⌜ 0 < n ⌝ }
+    ensures { λ r. ⌜ ((j : ℕ) → (j < r) ↔ ((j < n) × (axis ≡ 0 → (j ≡ 0) × (own ≡ 0)))) ⌝ }
 {
     if axis != 0 {
-        return a.count;
+        return n;
     }
-    if a.axis[0] == 0 {
+    if own == 0 {
         return 1;
     }
     0
 }
 
-// The smallest step of a that may take step 0 of a pattern, whose axis is `axis`; 64 where there is none.
-pub(crate) fn first_image(a: Pattern, axis: u8, fit: &[u64; 64]) -> usize
-    requires { ⌜ ValidPattern a ⌝ }
-    ensures { λ r. ⌜ Picks (λ j. ((j < a .count) × (axis ≡ 0 → (j ≡ 0) × (shapeOf a .axis 0 ≡ 0))) × (bit (getD (now (fit .entry)) j 0) 0 ≡ 1)) r ⌝ }
+// The smallest of n steps that may take step 0 of a pattern, whose axis is `axis`, where the first of them has axis `own`; 64 where there is none.
+pub(crate) fn first_image(n: usize, own: u8, axis: u8, fit: &[u64; 64]) -> usize
+    requires { ⌜ (0 < n) × (n ≤ 64) ⌝ }
+    ensures { λ r. ⌜ Picks (λ j. ((j < n) × (axis ≡ 0 → (j ≡ 0) × (own ≡ 0))) × (bit (getD (now (fit .entry)) j 0) 0 ≡ 1)) r ⌝ }
 {
-    let n = first_steps(a, axis);
+    let m = first_steps(n, own, axis);
     let mut s = 0;
-    while s < n {
+    while s < m {
         if fitting::has_bit(fit[s], 0) {
             return s;
         }

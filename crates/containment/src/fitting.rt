@@ -69,52 +69,44 @@ fn labelled(low: &[u64; 64], mid: &[u64; 64], high: &[u64; 64], l: u16) -> u64
     low[i] & mid[j] & high[k]
 }
 
-// The steps of b past step 0 that have the axis a.
-fn axis_steps(b: Pattern, a: u8) -> u64
-    requires { ⌜ ValidPattern b ⌝ }
-    ensures { λ r. ⌜ Marks r (OfAxis (shapeOf b) a) ⌝ }
-{
-    let n = b.count;
-    let mut x: u64 = 0;
-    let mut t = 1;
-    while t < n {
-        if b.axis[t] == a {
-            x = x | one_bit(t);
-        }
-        t += 1;
-    }
-    x
+// The steps of b past step 0 as bits: those of each axis, and those that hang on the step just before them.
+struct Sets {
+    child: u64,
+    descendant: u64,
+    next: u64,
 }
 
-// The steps of b that hang on the step just before them.
-fn next_steps(b: Pattern) -> u64
-    requires { ⌜ ValidPattern b ⌝ }
-    ensures { λ r. ⌜ Marks r (Next (shapeOf b)) ⌝ }
-{
-    let n = b.count;
-    let mut x: u64 = 0;
-    let mut t = 1;
-    while t < n {
-        if b.parent[t] as usize + 1 == t {
-            x = x | one_bit(t);
-        }
-        t += 1;
-    }
-    x
-}
-
-// The child steps of each step of b, in a table of zeros.
-fn child_steps(b: Pattern, to: &mut [u64; 64])
+// These sets of b's steps; and the child steps of each step, in a table of zeros.
+fn gather(b: Pattern, to: &mut [u64; 64]) -> Sets
     requires { ⌜ ValidPattern b ⌝ }
     requires { ⌜ now to ≡ replicate 64 0 ⌝ }
-    ensures { λ _. ⌜ ((s : ℕ) → Marks (getD (now (to .exit)) s 0) (Child (shapeOf b .tree) s)) ⌝ }
+    ensures axes { λ r. ⌜ Marks (r .child) (OfAxis (shapeOf b) 0) × Marks (r .descendant) (OfAxis (shapeOf b) 1) ⌝ }
+    ensures next { λ r. ⌜ Marks (r .next) (Next (shapeOf b)) ⌝ }
+    ensures children { λ _. ⌜ ((s : ℕ) → Marks (getD (now (to .exit)) s 0) (Child (shapeOf b .tree) s)) ⌝ }
 {
     let n = b.count;
+    let mut child: u64 = 0;
+    let mut descendant: u64 = 0;
+    let mut next: u64 = 0;
     let mut t = 1;
     while t < n {
+        let x = one_bit(t);
         let s = b.parent[t] as usize;
-        to[s] = to[s] | one_bit(t);
+        to[s] = to[s] | x;
+        if b.axis[t] == 0 {
+            child = child | x;
+        } else {
+            descendant = descendant | x;
+        }
+        if s + 1 == t {
+            next = next | x;
+        }
         t += 1;
+    }
+    Sets {
+        child: child,
+        descendant: descendant,
+        next: next,
     }
 }
 
@@ -276,14 +268,14 @@ pub(crate) fn lift(a: Pattern, b: Pattern, fit: &mut [u64; 64])
     let mut high = [0u64; 64];
     label_steps(b, &mut low, &mut mid, &mut high);
     let mut to = [0u64; 64];
-    child_steps(b, &mut to);
-    let next = next_steps(b);
+    let sets = gather(b, &mut to);
+    let next = sets.next;
     let mut who = [0u64; 64];
     let mut kids = [0u64; 64];
     let groups = group(&to, next, b.count, &mut who, &mut kids);
     let m = Masks {
-        child: axis_steps(b, 0),
-        descendant: axis_steps(b, 1),
+        child: sets.child,
+        descendant: sets.descendant,
         next: next,
         output: one_bit(b.output.0 as usize),
         groups: groups,

@@ -119,7 +119,7 @@ fn within(a: Pattern, b: Pattern) -> bool
 {
     let mut fit = [0u64; 64];
     fitting::lift(a, b, &mut fit);
-    choosing::first_image(a, b.axis[0], &fit) != 64
+    choosing::first_image(a.count, a.axis[0], b.axis[0], &fit) != 64
 }
 
 // Do a and b have the same answers on every document? Equal, where each is contained in the other; or different. Refused by BadPattern if a breaks the rules,
@@ -159,7 +159,7 @@ fn compare(a: Pattern, b: Pattern) -> VerdictAnswer
 {
     let mut fit = [0u64; 64];
     fitting::lift(a, b, &mut fit);
-    let first = choosing::first_image(a, b.axis[0], &fit);
+    let first = choosing::first_image(a.count, a.axis[0], b.axis[0], &fit);
     if first == 64 {
         return unmapped(Verdict::Apart);
     }

@@ -144,7 +144,7 @@ fn serves(q: Pattern, v: Pattern, e: Pattern) -> bool
     ensures { λ r. ⌜ T r ↔ Equal (shapeOf (joinOf v e)) (shapeOf q) ⌝ }
 {
     let j = joining::join(v, e).pattern;
-    let equality = containment::equal(j, q);
+    let equality = containment::equal(q, j);
     match equality {
         Equality::Equal => true,
         Equality::Different => false,

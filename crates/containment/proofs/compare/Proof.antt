@@ -14,6 +14,9 @@ lift-requires c κs = search needs
 element-copy-out-first-image : tie.Need-element-copy-out-first-image
 element-copy-out-first-image c = search needs
 
+element-copy-out-first-image-2 : tie.Need-element-copy-out-first-image-2
+element-copy-out-first-image-2 c = search needs
+
 first-image-requires : tie.Need-first-image-requires
 first-image-requires c κs = search needs
 
@@ -22,28 +25,28 @@ unmapped-requires c κs = search needs
 
 -- the step picked is the smallest that may take step 0
 picks : (c : tie.After-first-image)
-    → let s = c .before .before .before .before .before in
-    Picks (λ j. BeginsIn (shapeOf (s .args .t2)) (shapeOf (s .args .a)) j × FitsIn (shapeOf (s .args .t2)) (shapeOf (s .args .a)) j 0) (c .first-image .result)
+    → let s = c .before .before .before .before .before .before in
+    Picks (λ j. BeginsIn (shapeOf (s .args .t2)) (shapeOf (s .args .t1)) j × FitsIn (shapeOf (s .args .t2)) (shapeOf (s .args .t1)) j 0) (c .first-image .result)
 picks c =
-    let s = c .before .before .before .before .before in
-    first-picked (shapeOf (s .args .a)) (shapeOf (s .args .t2)) (s .pre .0) (s .pre .1) (c .before .before .before .lift .last .1 .1 .0) _ (c .before .before .before .lift .ensures) (c .first-image .ensures)
+    let s = c .before .before .before .before .before .before in
+    first-picked (shapeOf (s .args .t1)) (shapeOf (s .args .t2)) (s .pre .0) (s .pre .1) (c .before .before .before .before .lift .last .1 .1 .0) _ (c .before .before .before .before .lift .ensures) (c .first-image .ensures)
 
 returns : tie.Need-returns
 returns c =
     let g = c .before .before in
-    let s = g .before .before .before .before .before in
+    let s = g .before .before .before .before .before .before in
     let u = c .unmapped .ensures in
-    told-apart (s .args .a) (s .args .t2) (c .unmapped .result) (s .pre .0) (s .pre .1) (u .0) (u .1) (not-contained _ _ (s .pre .0) (s .pre .1) _ (c .before .if1 .taken) (picks g))
+    told-apart (s .args .t1) (s .args .t2) (c .unmapped .result) (s .pre .0) (s .pre .1) (u .0) (u .1) (not-contained _ _ (s .pre .0) (s .pre .1) _ (c .before .if1 .taken) (picks g))
 
 choose-requires : tie.Need-choose-requires
 choose-requires c κs =
     let g = c .before .before in
-    let s = g .before .before .before .before .before in
-    (s .pre, (g .before .before .before .lift .ensures, (picks g, pick-below (picks g) (c .before .if1 .left))))
+    let s = g .before .before .before .before .before .before in
+    (s .pre, (g .before .before .before .before .lift .ensures, (picks g, pick-below (picks g) (c .before .if1 .left))))
 
 returns-2 : tie.Need-returns-2
 returns-2 c =
-    let s = c .before .before .before .before .before .before .before .before in
+    let s = c .before .before .before .before .before .before .before .before .before in
     ((s .pre .0, (s .pre .1, tt)), within-chosen _ _ (s .pre .0) (s .pre .1) _ (c .choose .ensures))
 
 pub compare-spec : {M : Type 1} → statement M
@@ -52,6 +55,7 @@ compare-spec =
     (tie.spec
     lift-requires
     element-copy-out-first-image
+    element-copy-out-first-image-2
     first-image-requires
     unmapped-requires
     returns

@@ -12,15 +12,18 @@ lift-requires c κs = search needs
 element-copy-out-first-image : tie.Need-element-copy-out-first-image
 element-copy-out-first-image c = search needs
 
+element-copy-out-first-image-2 : tie.Need-element-copy-out-first-image-2
+element-copy-out-first-image-2 c = search needs
+
 first-image-requires : tie.Need-first-image-requires
 first-image-requires c κs = search needs
 
 returns : tie.Need-returns
 returns c =
-    let s = c .before .before .before .before .before in
-    let A = shapeOf (s .args .a) in
+    let s = c .before .before .before .before .before .before in
+    let A = shapeOf (s .args .t1) in
     let B = shapeOf (s .args .t2) in
-    let p = first-picked A B (s .pre .0) (s .pre .1) (c .before .before .before .lift .last .1 .1 .0) _ (c .before .before .before .lift .ensures) (c .first-image .ensures) in
+    let p = first-picked A B (s .pre .0) (s .pre .1) (c .before .before .before .before .lift .last .1 .1 .0) _ (c .before .before .before .before .lift .ensures) (c .first-image .ensures) in
     let t = tells-not (tells-eq (c .first-image .result) 64) in (
       λ h. picked-contained A B (s .pre .0) (s .pre .1) _ (t .says h) p,
       λ h. t .test (λ e. not-contained A B (s .pre .0) (s .pre .1) _ e p h),
@@ -28,4 +31,4 @@ returns c =
 
 pub within-spec : {M : Type 1} → statement M
 within-spec =
-    tie.close (tie.spec lift-requires element-copy-out-first-image first-image-requires returns)
+    tie.close (tie.spec lift-requires element-copy-out-first-image element-copy-out-first-image-2 first-image-requires returns)

@@ -5,6 +5,7 @@ use Rattle.tables.proofs.Refusals.{refuses-not-passes}
 use Rattle.containment.specs.Verdict.{verdictChecks}
 use Rattle.containment.specs.Equality.{DecidesEquality}
 use Rattle.containment.specs.declared.Equality.{Equality}
+use Rattle.containment.proofs.Maps.{equal-sym}
 use Rattle.joining.specs.Join.{joinOf}
 use Rattle.joining.proofs.Called.{called-accepts, called-gives}
 use Rattle.joining.proofs.Order.{join-valid}
@@ -23,10 +24,10 @@ valid : (x : tie.After-join) → ValidPattern (joinOf (x .before .args .v) (x .b
 valid x = join-valid (x .before .args .v) (x .before .args .e) (x .before .pre .1)
 
 -- what is said of the join and the query
-told : (x : tie.After-equal) (r : Equality) → x .equal .result ≡ r → DecidesEquality (joinOf (x .before .before .before .args .v) (x .before .before .before .args .e)) (x .before .before .before .args .q) r
+told : (x : tie.After-equal) (r : Equality) → x .equal .result ≡ r → DecidesEquality (x .before .before .before .args .q) (joinOf (x .before .before .before .args .v) (x .before .before .before .args .e)) r
 told x r e =
     let a = x .before .before .before .args in
-    subst (λ p. DecidesEquality p (a .q) r) (joined (x .before .before)) (subst (DecidesEquality (x .before .before .join .result .pattern) (a .q)) e (x .equal .ensures))
+    subst (λ p. DecidesEquality (a .q) p r) (joined (x .before .before)) (subst (DecidesEquality (a .q) (x .before .before .join .result .pattern)) e (x .equal .ensures))
 
 join-requires : tie.Need-join-requires
 join-requires c κs = search needs
@@ -44,17 +45,17 @@ enum-told-3 : tie.Need-enum-told-3
 enum-told-3 c = search needs
 
 returns : tie.Need-returns
-returns c = (λ t. told (c .before .before) _ (c .enum-told .given .1) .1, λ h. tt)
+returns c = (λ t. equal-sym (told (c .before .before) _ (c .enum-told .given .1) .1), λ h. tt)
 
 returns-2 : tie.Need-returns-2
-returns-2 c = (λ t. absurd t, told (c .before .before) _ (c .enum-told2 .given .1) .1)
+returns-2 c = (λ t. absurd t, λ h. told (c .before .before) _ (c .enum-told2 .given .1) .1 (equal-sym h))
 
 returns-3 : tie.Need-returns-3
 returns-3 c =
     let s = c .before .before .before .before .before in
     let a = s .args in (
       λ t. absurd t,
-      λ h. refuses-not-passes (verdictChecks (joinOf (a .v) (a .e)) (a .q)) (c .enum-told3 .given .0 .0) (told (c .before .before) _ (c .enum-told3 .given .1)) (valid (c .before .before .before .before), (s .pre .0, tt)),
+      λ h. refuses-not-passes (verdictChecks (a .q) (joinOf (a .v) (a .e))) (c .enum-told3 .given .0 .0) (told (c .before .before) _ (c .enum-told3 .given .1)) (s .pre .0, (valid (c .before .before .before .before), tt)),
     )
 
 pub serves-spec : {M : Type 1} → statement M

@@ -11,20 +11,20 @@ use Rattle.containment.proofs.choosing.first_image.Statement.{statement
 use Rattle.containment.proofs.choosing.first_image.Tie as tie
 
 abbrev Inv-loop : tie.InvT-loop
-Inv-loop axis fit n s₀ s = (s ≤ n) × ((j : ℕ) → j < s → bit (getD fit j 0) 0 ≡ 1 → ⊥)
+Inv-loop n own axis fit m s₀ s = (s ≤ m) × ((j : ℕ) → j < s → bit (getD fit j 0) 0 ≡ 1 → ⊥)
 
 abbrev μ-loop : tie.MeasureT-loop
-μ-loop axis fit n s₀ s = n - s
+μ-loop n own axis fit m s₀ s = m - s
 
 first-steps-requires : tie.Need-first-steps-requires Inv-loop μ-loop
-first-steps-requires c κs = c .pre
+first-steps-requires c κs = c .pre .0
 
 loop-holds : tie.Need-loop-holds Inv-loop μ-loop
 loop-holds c = (omega arith, λ j l. absurd (omega arith))
 
 -- the step looked at is one of a's
 small : (c : tie.In-loop Inv-loop μ-loop) → c .before .loop .s < 64
-small c = omega (arith, c .before .before .first-steps .ensures (c .before .loop .s) .0 (c .loop-test .taken) .0, c .before .before .before .pre .few)
+small c = omega (arith, c .before .before .first-steps .ensures (c .before .loop .s) .0 (c .loop-test .taken) .0, c .before .before .before .pre .1)
 
 mul-has-bit : tie.Need-mul-has-bit Inv-loop μ-loop
 mul-has-bit c = record { fits = omega (arith, small c) }

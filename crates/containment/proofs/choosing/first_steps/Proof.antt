@@ -7,14 +7,11 @@ use Rattle.containment.proofs.choosing.first_steps.Tie as tie
 returns : tie.Need-returns
 returns c = search needs
 
-element-copy-out-if2 : tie.Need-element-copy-out-if2
-element-copy-out-if2 c = search needs
-
 returns-2 : tie.Need-returns-2
-returns-2 c = λ j. (λ l. (omega (arith, c .before .before .before .pre .some), λ e. (omega arith, c .if2 .taken)), λ w. let z = w .1 (omega arith) .0 in omega arith)
+returns-2 c = λ j. (λ l. (omega arith, λ e. (omega arith, c .if2 .taken)), λ w. let z = w .1 (omega arith) .0 in omega arith)
 
 returns-3 : tie.Need-returns-3
 returns-3 c = λ j. (λ l. absurd (omega arith), λ w. absurd (c .if2 .left (w .1 (omega arith) .1)))
 
 pub first-steps-spec : {M : Type 1} → statement M
-first-steps-spec = tie.close (tie.spec returns element-copy-out-if2 returns-2 returns-3)
+first-steps-spec = tie.close (tie.spec returns returns-2 returns-3)
