@@ -7,6 +7,7 @@ pub mod CutTable
 pub mod CutSends
 pub mod Depths
 pub mod Serving
+pub mod Paths
 pub mod Rewritten
 pub mod Unique
 pub mod Deciding

@@ -23,7 +23,7 @@ use Rattle.rewriting.proofs.CutSends.{cut-into, cut-back}
 -- depths in a join
 module _ {U E J : Shape} {e : ℕ} (j : Joined U E J e) (lo : U .output < U .tree .size) (vu : Ordered (U .tree)) (vj : Ordered (J .tree)) where
   -- a step of the view stands as deep in the join
-  view-depth-to : (k s : ℕ) → s ≤ k → s < U .tree .size → depth (J .tree) (renumber (U .output) e s) ≡ depth (U .tree) s
+  pub view-depth-to : (k s : ℕ) → s ≤ k → s < U .tree .size → depth (J .tree) (renumber (U .output) e s) ≡ depth (U .tree) s
   view-depth-to zero s m l =
       let z : s ≡ 0 = omega arith in
       ap (λ x. depth (J .tree) (renumber (U .output) e x)) z ∙ ap (depth (J .tree)) (renumber-zero j lo) ∙ depth-zero (J .tree) ∙ sym (depth-zero (U .tree)) ∙ ap (depth (U .tree)) (sym z)
@@ -36,7 +36,7 @@ module _ {U E J : Shape} {e : ℕ} (j : Joined U E J e) (lo : U .output < U .tre
       (eq-zero-or-pos s)
 
   -- the joint is above the join's output
-  joint : Ordered (E .tree) → E .output < E .tree .size → From (J .tree) (U .output) (J .output)
+  pub joint : Ordered (E .tree) → E .output < E .tree .size → From (J .tree) (U .output) (J .output)
   joint ve le = subst₂ (From (J .tree)) {x = U .output + 0} (omega arith) (sym (j .output)) (tail-from j lo 0 (E .output) (from-root ve (E .output) le))
 
 -- the joint goes to a step of the query's main path that is as deep as the view's output

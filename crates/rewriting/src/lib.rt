@@ -1,5 +1,5 @@
 // Rewriting a query by a view (docs/RULES.md, "Rewriting").
-ghost use Prim.Native.Nat.{ℕ, _+_, _-_, _<_};
+ghost use Prim.Native.Nat.{ℕ, _+_, _-_, _≤_, _<_};
 ghost use mathlib.Core.Path.{_≡_};
 ghost use mathlib.Core.Logic.{_↔_};
 ghost use lib.Dec.{T};
@@ -9,8 +9,8 @@ ghost use Rattle.tables.specs.Pattern.{Shape, shapeOf, patternOf, zeroPattern, 
 ghost use Rattle.tables.specs.declared.Pattern.{Pattern};
 ghost use Rattle.containment.specs.Mapping.{Equal};
 ghost use Rattle.joining.specs.Join.{joinOf, Joinable};
-ghost use Rattle.rewriting.specs.Candidate.{mainPath, Cut, Candidate};
-ghost use Rattle.rewriting.specs.Rewriting.{Rewrites};
+ghost use Rattle.rewriting.specs.Candidate.{mainPath, cutStep, Cut, Candidate};
+ghost use Rattle.rewriting.specs.Rewriting.{Serves, Rewrites};
 use containment::Equality;
 use tables::Checked;
 use tables::Pattern;
@@ -104,18 +104,42 @@ fn cut(q: Pattern, c: usize) -> Pattern
     p
 }
 
-// Is there a candidate, and which? The pattern is zero where there is none.
+// Do the main paths of a query, from step c up, and of a view have the same labels and axes? Where they do not, nothing serves.
+fn agree(q: Pattern, v: Pattern, c: usize) -> bool
+    requires { ⌜ ValidPattern q × ValidPattern v ⌝ }
+    requires { ⌜ (length (mainPath (shapeOf v)) ≤ length (mainPath (shapeOf q))) × (c ≡ cutStep (shapeOf q) (shapeOf v)) ⌝ }
+    ensures { λ r. ⌜ ((E : Pattern) → Serves q v E → T r) ⌝ }
+{
+    let mut s = c;
+    let mut t = v.output.0 as usize;
+    while 0 < t {
+        if q.label[s] != v.label[t] {
+            return false;
+        }
+        if q.axis[s] != v.axis[t] {
+            return false;
+        }
+        s = q.parent[s] as usize;
+        t = v.parent[t] as usize;
+    }
+    if q.label[s] != v.label[t] {
+        return false;
+    }
+    q.axis[s] == v.axis[t]
+}
+
+// Is there a candidate that may serve, and which? The pattern is zero where there is none.
 struct Found {
     there: bool,
     pattern: Pattern,
 }
 
 // The candidate for a query by a view: the query's cut at the step of its main path that is as deep as the view's output step, where there is such a step
-// and it has the label of that one.
+// and it has the label of that one. None, too, where the main paths differ up to there.
 fn candidate(q: Pattern, v: Pattern) -> Found
     requires { ⌜ ValidPattern q ⌝ }
     requires { ⌜ ValidPattern v ⌝ }
-    ensures { λ r. ⌜ (T (r .there) → Candidate q v (r .pattern)) × ((E : Pattern) → Candidate q v E → T (r .there)) ⌝ }
+    ensures { λ r. ⌜ (T (r .there) → Candidate q v (r .pattern)) × ((E : Pattern) → Candidate q v E → Serves q v E → T (r .there)) ⌝ }
 {
     let none = Found {
         there: false,
@@ -129,6 +153,9 @@ fn candidate(q: Pattern, v: Pattern) -> Found
     let c = main_step(q, n - k);
     let o = v.output.0 as usize;
     if v.label[o] != q.label[c] {
+        return none;
+    }
+    if !agree(q, v, c) {
         return none;
     }
     Found {

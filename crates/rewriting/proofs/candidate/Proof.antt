@@ -5,6 +5,7 @@ use native.Mathlib.Omega.{arith}
 use lib.ListN.{length, getD}
 use Rattle.tables.specs.Tree.{From}
 use Rattle.tables.specs.Pattern.{shapeOf}
+use Rattle.tables.proofs.Tests.{failed}
 use Rattle.rewriting.specs.Candidate.{mainPath, cutStep, Cut}
 use Rattle.rewriting.proofs.CutTable.{cut-here}
 use Rattle.rewriting.proofs.MainPath.{main-length, cut-on-path}
@@ -48,7 +49,7 @@ main-length-requires-2 : tie.Need-main-length-requires-2
 main-length-requires-2 c κs = search needs
 
 returns : tie.Need-returns
-returns c = (λ b. absurd b, λ E k. omega (arith, k .long))
+returns c = (λ b. absurd b, λ E k s. omega (arith, k .long))
 
 main-step-requires : tie.Need-main-step-requires
 main-step-requires c κs = (c .before .before .before .before .pre .0, omega (arith, main-length (c .before .before .before .before .pre .1)))
@@ -71,14 +72,20 @@ element-copy-out-if2-2 c = here (c .before)
 returns-2 : tie.Need-returns-2
 returns-2 c =
     let x = c .before .before .before in
-    (λ b. absurd b, λ E k. omega (arith, k .same, ap (λ s. getD (entry x .args .t1 .label) s 0) (placed x)))
+    (λ b. absurd b, λ E k s. omega (arith, k .same, ap (λ i. getD (entry x .args .t1 .label) i 0) (placed x)))
 
-cut-requires : tie.Need-cut-requires
-cut-requires c κs = (entry (c .before .before .before) .pre .0, above (c .before .before .before))
+agree-requires : tie.Need-agree-requires
+agree-requires c κs = let x = c .before .before .before in (entry x .pre, (long (x .before), placed x))
 
 returns-3 : tie.Need-returns-3
-returns-3 c =
-    let x = c .before .before .before .before in
+returns-3 c = (λ b. absurd b, λ E k s. failed (c .before .agree .result) (c .if3 .taken) (c .before .agree .ensures E s))
+
+cut-requires : tie.Need-cut-requires
+cut-requires c κs = (entry (c .before .before .before .before .before) .pre .0, above (c .before .before .before .before .before))
+
+returns-4 : tie.Need-returns-4
+returns-4 c =
+    let x = c .before .before .before .before .before .before in
     let r = c .cut .ensures in (
       λ t. record {
         long = long (x .before);
@@ -87,7 +94,7 @@ returns-3 c =
         cut = subst (λ s. Cut (shapeOf (entry x .args .t1)) s (r .0)) (placed x) (r .1);
         table = r .2;
       },
-      λ E k. tt,
+      λ E k s. tt,
     )
 
 pub candidate-spec : {M : Type 1} → statement M
@@ -105,5 +112,7 @@ candidate-spec =
     mul-if2-2
     element-copy-out-if2-2
     returns-2
+    agree-requires
+    returns-3
     cut-requires
-    returns-3)
+    returns-4)

@@ -125,7 +125,7 @@ returns-5 c =
     let f = c .before .before .before .candidate in
     let x = c .before .before .before .before in
     said (entry x .args .q) (entry x .args .v) rewriting.Nothing (c .beside5 .result) (c .beside5 .ensures)
-    (passes x, λ E k s. failed (f .result .there) (c .before .if3 .taken) (f .ensures .1 E k), refl)
+    (passes x, λ E k s. failed (f .result .there) (c .before .if3 .taken) (f .ensures .1 E k s), refl)
 
 serves-requires : tie.Need-serves-requires
 serves-requires c κs = (passes (c .before .before .before .before) .0, joinable (c .before))
