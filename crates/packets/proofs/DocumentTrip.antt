@@ -2,17 +2,17 @@
 -- result of reading fits. Assumes nothing.
 use Prim.Native.Nat.{ℕ, _+_, _*_, _<_, _≤_}
 use mathlib.Core.Path.{_≡_, refl, sym, ap, ap₂, _∙_, subst}
-use mathlib.Core.List.{List, [], _∷_}
+use mathlib.Core.List.{List, [], _∷_, _++_}
 use native.Mathlib.Omega.{arith}
-use lib.ListN.{length, getD}
+use lib.ListN.{length, getD, drop}
 use Rattle.tables.specs.Column.{blocks, column}
 use Rattle.tables.specs.Document.{Document, nodeCount, ValidDocument}
-use Rattle.tables.specs.Refusal.{Check, Passes}
+use Rattle.tables.specs.Refusal.{Check, Passes, CountedBy}
 use Rattle.tables.specs.declared.Counted.{Counted}
 use Rattle.tables.proofs.Columns.{blocks-ext, column-length, column-at, column-ext, column-self}
 use Rattle.tables.proofs.Refusals.{counted-unique}
 use Rattle.packets.specs.Bytes.{Bytes, high, low, half}
-use Rattle.packets.specs.DocumentPacket.{nodeBytes, documentPacket, nodesIn, packetDocument, DocumentSized, documentChecks, ReadsDocument}
+use Rattle.packets.specs.DocumentPacket.{nodeBytes, documentPacket, nodesIn, packetDocument, DocumentSized, documentChecks, nodeChecks, ReadsNodes, ReadsDocument}
 use Rattle.packets.proofs.Halves.{half-of-bytes, high-half, low-half, packet-length, packet-half, four, packet-self}
 use Rattle.tables.proofs.Outcomes.{counted-both}
 
@@ -101,12 +101,26 @@ document-read-then-written bs h n z w =
       blocks-ext (nodeBytes (packetDocument bs)) (λ i. four (λ j. getD bs j 0) (3 + 4 * i)) n (λ i l. node-read bs h i (omega arith)),
     )
 
--- no second result of reading fits
-pub reads-document-unique : (bs parents₀ labels₀ : List ℕ) (r q : Counted) (parents parents′ labels labels′ : List ℕ)
-    → ReadsDocument bs parents₀ labels₀ r parents labels → ReadsDocument bs parents₀ labels₀ q parents′ labels′
-    → (r ≡ q) × (parents ≡ parents′) × (labels ≡ labels′)
-reads-document-unique bs parents₀ labels₀ r q parents parents′ labels labels′ h k =
-    let cs : List Check = documentChecks bs (length parents₀) (length labels₀) in
+-- reading by a list of checks, with the rules among them or without
+abbrev ReadsBy : List Check → List ℕ → List ℕ → List ℕ → Counted → List ℕ → List ℕ → Type 0
+ReadsBy cs bs parents₀ labels₀ r parents labels =
+    CountedBy cs r (λ n. (n ≡ nodesIn bs) × (parents ≡ packetDocument bs .parents ++ drop n parents₀) × (labels ≡ packetDocument bs .labels ++ drop n labels₀))
+    ((parents ≡ parents₀) × (labels ≡ labels₀))
+
+-- whatever is checked, no second result of reading fits
+reads-by-unique : (cs : List Check) (bs parents₀ labels₀ : List ℕ) (r q : Counted) (parents parents′ labels labels′ : List ℕ)
+    → ReadsBy cs bs parents₀ labels₀ r parents labels → ReadsBy cs bs parents₀ labels₀ q parents′ labels′ → (r ≡ q) × (parents ≡ parents′) × (labels ≡ labels′)
+reads-by-unique cs bs parents₀ labels₀ r q parents parents′ labels labels′ h k =
     let a : r ≡ q = counted-unique cs r q _ _ _ _ (λ c e x y. x .0 ∙ sym (y .0)) h k in
     let b : (parents ≡ parents′) × (labels ≡ labels′) = counted-both cs r q (λ c e x y. ((cc), (cc))) (λ x y. ((cc), (cc))) h k in
     (a, b .0, b .1)
+
+-- not of reading the nodes
+pub reads-nodes-unique : (bs parents₀ labels₀ : List ℕ) (r q : Counted) (parents parents′ labels labels′ : List ℕ)
+    → ReadsNodes bs parents₀ labels₀ r parents labels → ReadsNodes bs parents₀ labels₀ q parents′ labels′ → (r ≡ q) × (parents ≡ parents′) × (labels ≡ labels′)
+reads-nodes-unique bs parents₀ labels₀ = reads-by-unique (nodeChecks bs (length parents₀) (length labels₀)) bs parents₀ labels₀
+
+-- nor of reading the document
+pub reads-document-unique : (bs parents₀ labels₀ : List ℕ) (r q : Counted) (parents parents′ labels labels′ : List ℕ)
+    → ReadsDocument bs parents₀ labels₀ r parents labels → ReadsDocument bs parents₀ labels₀ q parents′ labels′ → (r ≡ q) × (parents ≡ parents′) × (labels ≡ labels′)
+reads-document-unique bs parents₀ labels₀ = reads-by-unique (documentChecks bs (length parents₀) (length labels₀)) bs parents₀ labels₀

@@ -6,6 +6,8 @@
 --   DocumentSized   the length field is right
 --   documentChecks  what reading checks, in order
 --   documentRules   the same but for the room
+--   nodeChecks      the same but for the rules
+--   ReadsNodes      what reading without the rules answers and leaves in the two lists
 --   ReadsDocument   what reading answers and leaves in the two lists
 -- Assumes nothing.
 use Prim.Native.Nat.{ℕ, _+_, _*_, _/_, _≤_}
@@ -55,6 +57,17 @@ documentChecks bs a b =
 -- the same but for the room
 abbrev pub documentRules : List ℕ → List Check
 documentRules bs = take 4 (documentChecks bs 0 0)
+
+-- the same but for the rules
+abbrev pub nodeChecks : List ℕ → ℕ → ℕ → List Check
+nodeChecks bs a b = take 3 (documentChecks bs a b) ++ drop 4 (documentChecks bs a b)
+
+-- reading without the rules puts the nodes at the front of both lists and counts them; a refusal leaves both lists as they were
+abbrev pub ReadsNodes : List ℕ → List ℕ → List ℕ → Counted → List ℕ → List ℕ → Type 0
+ReadsNodes bs parents₀ labels₀ r parents labels =
+    CountedBy (nodeChecks bs (length parents₀) (length labels₀)) r (λ n.
+    (n ≡ nodesIn bs) × (parents ≡ packetDocument bs .parents ++ drop n parents₀) × (labels ≡ packetDocument bs .labels ++ drop n labels₀))
+    ((parents ≡ parents₀) × (labels ≡ labels₀))
 
 -- reading puts the nodes at the front of both lists and counts them; a refusal leaves both lists as they were
 abbrev pub ReadsDocument : List ℕ → List ℕ → List ℕ → Counted → List ℕ → List ℕ → Type 0

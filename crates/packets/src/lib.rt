@@ -6,11 +6,10 @@ ghost use lib.ListN.{length, take, drop};
 ghost use Rattle.tables.specs.Column.{column};
 ghost use Rattle.tables.specs.Pattern.{shapeOf, patternOf};
 ghost use Rattle.tables.specs.Refusal.{CountedBy};
-ghost use Rattle.tables.specs.Checks.{ChecksDocument};
 ghost use Rattle.tables.specs.declared.Refusal.the-variants.{Length};
 ghost use Rattle.packets.specs.Bytes.{half};
 ghost use Rattle.packets.specs.PatternPacket.{patternPacket, packetShape, patternLength, patternChecks, ReadsPattern, WritesPattern};
-ghost use Rattle.packets.specs.DocumentPacket.{packetDocument, nodesIn, ReadsDocument};
+ghost use Rattle.packets.specs.DocumentPacket.{ReadsNodes, ReadsDocument};
 use tables::Checked;
 use tables::Counted;
 use tables::Pattern;
@@ -200,30 +199,27 @@ fn decode(s: &[u8], o: usize, n: usize, dst: &mut [u16])
     }
 }
 
-// Right exactly where the n nodes of a packet obey the rules: they are decoded into lists of this call's own.
-fn check_nodes(s: &[u8], n: usize) -> Checked
-    requires { ⌜ (n ≤ 2048) × (length (now s) ≡ 4 * n + 3) × (n ≡ nodesIn (now s)) ⌝ }
-    ensures { λ r. ⌜ ChecksDocument (packetDocument (now (s .entry))) r ⌝ }
+// The first n numbers of one list, at the front of another.
+fn copy(src: &[u16], n: usize, dst: &mut [u16])
+    requires { ⌜ (n ≤ length (now src)) × (n ≤ length (now dst)) × (n ≤ 2048) ⌝ }
+    ensures { λ _. ⌜ now (dst .exit) ≡ take n (now (src .entry)) ++ drop n (now (dst .entry)) ⌝ }
 {
-    let mut parents = [0u16; 2048];
-    let mut labels = [0u16; 2048];
-    decode(s, 3, n, &mut parents);
-    decode(s, 5, n, &mut labels);
-    tables::check_document(&parents[..n], &labels[..n])
+    let mut k = 0;
+    while k < n {
+        dst[k] = src[k];
+        k += 1;
+    }
 }
 
-// Reads the document of a packet into the fronts of two lists and answers how many nodes it has; entries past them stay as they were.
-// Refused by Length, Version, Length, BadDocument or Room, the first that applies, with both lists as they were.
-pub fn read_document(s: &[u8], parents: &mut [u16], labels: &mut [u16]) -> Counted
-    ensures { λ r. ⌜ ReadsDocument (now (s .entry)) (now (parents .entry)) (now (labels .entry)) r (now (parents .exit)) (now (labels .exit)) ⌝ }
+// Reads the nodes of a packet into the fronts of two lists and answers how many they are; entries past them stay as they were. The document's rules are
+// not checked. Refused by Length, Version, Length or Room, the first that applies, with both lists as they were.
+pub fn read_nodes(s: &[u8], parents: &mut [u16], labels: &mut [u16]) -> Counted
+    ensures { λ r. ⌜ ReadsNodes (now (s .entry)) (now (parents .entry)) (now (labels .entry)) r (now (parents .exit)) (now (labels .exit)) ⌝ }
 {
     let n = match rows_in(s, 0, 2048) {
         Counted::Count(n) => n,
         Counted::Refused(r) => return Counted::Refused(r),
     };
-    if let Checked::Refused(r) = check_nodes(s, n) {
-        return Counted::Refused(r);
-    }
     if parents.len() < n {
         return Counted::Refused(Refusal::Room);
     }
@@ -232,5 +228,31 @@ pub fn read_document(s: &[u8], parents: &mut [u16], labels: &mut [u16]) -> Count
     }
     decode(s, 3, n, parents);
     decode(s, 5, n, labels);
+    Counted::Count(n)
+}
+
+// Reads the document of a packet into the fronts of two lists and answers how many nodes it has; entries past them stay as they were. The nodes are read
+// into lists of this call's own and checked there first. Refused by Length, Version, Length, BadDocument or Room, the first that applies, with both lists
+// as they were.
+pub fn read_document(s: &[u8], parents: &mut [u16], labels: &mut [u16]) -> Counted
+    ensures { λ r. ⌜ ReadsDocument (now (s .entry)) (now (parents .entry)) (now (labels .entry)) r (now (parents .exit)) (now (labels .exit)) ⌝ }
+{
+    let mut own_parents = [0u16; 2048];
+    let mut own_labels = [0u16; 2048];
+    let n = match read_nodes(s, &mut own_parents, &mut own_labels) {
+        Counted::Count(n) => n,
+        Counted::Refused(r) => return Counted::Refused(r),
+    };
+    if let Checked::Refused(r) = tables::check_document(&own_parents[..n], &own_labels[..n]) {
+        return Counted::Refused(r);
+    }
+    if parents.len() < n {
+        return Counted::Refused(Refusal::Room);
+    }
+    if labels.len() < n {
+        return Counted::Refused(Refusal::Room);
+    }
+    copy(&own_parents, n, parents);
+    copy(&own_labels, n, labels);
     Counted::Count(n)
 }

@@ -1,38 +1,65 @@
--- `packets::read_document` meets its contract: the header's checks, the document's, the room, and then the two lists. Assumes nothing.
-use Prim.Native.Nat.{_+_, _*_}
-use mathlib.Core.Path.{refl, ap, _∙_, subst}
-use mathlib.Core.List.{_++_}
+-- `packets::read_document` meets its contract: the nodes are read into lists of its own, checked there, and copied where there is room. Assumes nothing.
+use Prim.Native.Nat.{ℕ, _≤_}
+use mathlib.Core.Path.{_≡_, refl, ap, _∙_, subst}
+use mathlib.Core.List.{List, _++_}
 use native.Mathlib.Omega.{arith}
-use lib.ListN.{length, drop}
+use lib.ListN.{length, take, drop, replicate, length-take, length-replicate}
 use denote.Ref.{now}
 use Rattle.tables.specs.Checks.{ChecksDocument}
-use Rattle.tables.specs.Column.{column}
 use Rattle.tables.specs.Document.{ValidDocument}
-use Rattle.tables.specs.declared.Counted.the-variants.{Count}
-use Rattle.packets.specs.Bytes.{half}
-use Rattle.packets.specs.DocumentPacket.{packetDocument}
-use Rattle.packets.proofs.Reading.{Headed, document-head-refuses, document-rules-refuse, document-room-refuses, document-passes}
+use Rattle.tables.specs.Refusal.{Passes}
+use Rattle.tables.specs.declared.Counted.{Counted}
+use Rattle.tables.specs.declared.Counted.the-variants.{Count, Refused}
+use Rattle.packets.specs.DocumentPacket.{packetDocument, documentChecks, documentRules, ReadsNodes}
+use Rattle.packets.proofs.Reading.{document-fronts, nodes-refused, nodes-headed, headed-few, document-rules-refuse, document-room-refuses, document-passes}
 use borrow.Author.Needs.{needs}
 use Rattle.packets.proofs.read_document.Statement.{statement}
 use Rattle.packets.proofs.read_document.Tie as tie
 
--- the entry, seen from where the nodes are counted
+-- the bytes, and the two lists of the call's own, seen from where the nodes are counted
 abbrev entry : tie.After-n → tie.Start
-entry x = x .before .before .before .before .before .before
+entry x = x .before .before .before .before .before .before .before .before .before .before
 
--- where the nodes are counted the header is right
-headed : (x : tie.After-n) → Headed (now (entry x .args .s)) 0 2048 (Count (x .n .given .0 .0))
-headed x = subst (Headed (now (entry x .args .s)) 0 2048) (x .n .given .1) (x .before .before .rows-in .ensures)
+abbrev bytes : tie.After-n → List ℕ
+bytes x = now (entry x .args .s)
+
+abbrev parents : tie.After-n → List ℕ
+parents x = x .before .before .before .before .read-nodes .last .1 .0
+
+abbrev labels : tie.After-n → List ℕ
+labels x = x .before .before .before .before .read-nodes .last .1 .1 .0
+
+-- where the nodes are counted they stand in these lists
+nodes : (x : tie.After-n) → ReadsNodes (bytes x) (replicate 2048 0) (replicate 2048 0) (Count (x .n .given .0 .0)) (parents x) (labels x)
+nodes x = subst (λ r. ReadsNodes (bytes x) (replicate 2048 0) (replicate 2048 0) r (parents x) (labels x)) (x .n .given .1) (x .before .before .before .before .read-nodes .ensures)
+
+header : (x : tie.After-n) → Passes (take 3 (documentRules (bytes x)))
+header x = nodes-headed (bytes x) _ _ (nodes x .0)
+
+few : (x : tie.After-n) → x .n .given .0 .0 ≤ 2048
+few x = omega (arith, nodes x .1 .0, headed-few (bytes x) (header x))
+
+fronts : (x : tie.After-n) → record { parents = take (x .n .given .0 .0) (parents x); labels = take (x .n .given .0 .0) (labels x) } ≡ packetDocument (bytes x)
+fronts x = document-fronts (bytes x) (parents x) (labels x) _ _ (x .n .given .0 .0) (nodes x .1 .0) (nodes x .1 .1) (nodes x .1 .2)
 
 -- and past the next test the document obeys the rules
 abbrev counted : tie.After-enum-told → tie.After-n
-counted y = y .before .before .before .before
+counted y = y .before .before .before .before .before .before
 
-valid : (y : tie.After-enum-told) → ValidDocument (packetDocument (now (entry (counted y) .args .s)))
-valid y = subst (ChecksDocument (packetDocument (now (entry (counted y) .args .s)))) (y .enum-told .given .1) (y .before .before .check-nodes .ensures) .0 .0
+valid : (y : tie.After-enum-told) → ValidDocument (packetDocument (bytes (counted y)))
+valid y =
+    let x = counted y in
+    let k = y .before .before .check-document in
+    subst (ChecksDocument (packetDocument (bytes x))) (y .enum-told .given .1) (subst (λ d. ChecksDocument d (k .result)) (fronts x) (k .ensures)) .0 .0
 
-rows-in-requires : tie.Need-rows-in-requires
-rows-in-requires c κs = search needs
+slice-aggregate-read-nodes : tie.Need-slice-aggregate-read-nodes
+slice-aggregate-read-nodes c = search needs
+
+slice-aggregate-read-nodes-2 : tie.Need-slice-aggregate-read-nodes-2
+slice-aggregate-read-nodes-2 c = search needs
+
+read-nodes-requires : tie.Need-read-nodes-requires
+read-nodes-requires c κs = search needs
 
 enum-known-n : tie.Need-enum-known-n
 enum-known-n c = search needs
@@ -42,24 +69,36 @@ enum-known-r c = search needs
 
 returns : tie.Need-returns
 returns c =
-    let a = c .before .before .before .before .before .before .before .args in
-    let h = subst (Headed (now (a .s)) 0 2048) (c .before .r .given .1) (c .before .before .before .rows-in .ensures) in
-    (document-head-refuses (now (a .s)) _ _ (c .before .r .given .0 .0) (h .0), (refl, refl))
+    let d = c .before .before .before .before .before .read-nodes in
+    let a = c .before .before .before .before .before .before .before .before .before .before .before .args in
+    let h = subst (λ r. ReadsNodes (now (a .s)) (replicate 2048 0) (replicate 2048 0) r (d .last .1 .0) (d .last .1 .1 .0)) (c .before .r .given .1) (d .ensures) in
+    let l = length-replicate {A = ℕ} 2048 0 in
+    (nodes-refused (now (a .s)) _ _ (omega (arith, l)) (omega (arith, l)) (drop 3 (documentChecks (now (a .s)) (length (now (a .parents))) (length (now (a .labels))))) (c .before .r .given .0 .0) (h .0), (refl, refl))
 
-check-nodes-requires : tie.Need-check-nodes-requires
-check-nodes-requires c κs =
-    let h = headed (c .before) in
-    let z = h .0 .1 .1 .0 in
-    (omega (arith, z .2, z .3, h .1), omega (arith, z .3, z .4, h .1), h .1)
+array-share-prefix-own-parents : tie.Need-array-share-prefix-own-parents
+array-share-prefix-own-parents c = omega (arith, few (c .before), c .before .before .before .before .before .read-nodes .kept)
+
+slice-aggregate-check-document : tie.Need-slice-aggregate-check-document
+slice-aggregate-check-document c = simp length-take (omega (arith, few (c .before .before), c .before .before .before .before .before .before .read-nodes .kept))
+
+array-share-prefix-own-labels : tie.Need-array-share-prefix-own-labels
+array-share-prefix-own-labels c = omega (arith, few (c .before .before), c .before .before .before .before .before .before .read-nodes .kept)
+
+slice-aggregate-check-document-2 : tie.Need-slice-aggregate-check-document-2
+slice-aggregate-check-document-2 c = simp length-take (omega (arith, few (c .before .before .before), c .before .before .before .before .before .before .before .read-nodes .kept))
+
+check-document-requires : tie.Need-check-document-requires
+check-document-requires c κs = search needs
 
 enum-known-r-2 : tie.Need-enum-known-r-2
 enum-known-r-2 c = search needs
 
 returns-2 : tie.Need-returns-2
 returns-2 c =
-    let x = c .before .before .before .before .before in
-    let v = subst (ChecksDocument (packetDocument (now (entry x .args .s)))) (c .before .r2 .given .1) (c .before .before .before .check-nodes .ensures) in
-    (document-rules-refuse (now (entry x .args .s)) _ _ (headed x .0) (c .before .r2 .given .0 .0) (v .0), (refl, refl))
+    let k = c .before .before .before .check-document in
+    let x = c .before .before .before .before .before .before .before in
+    let v = subst (ChecksDocument (packetDocument (bytes x))) (c .before .r2 .given .1) (subst (λ d. ChecksDocument d (k .result)) (fronts x) (k .ensures)) in
+    (document-rules-refuse (bytes x) _ _ (header x) (c .before .r2 .given .0 .0) (v .0), (refl, refl))
 
 enum-told : tie.Need-enum-told
 enum-told c = search needs
@@ -68,27 +107,29 @@ returns-3 : tie.Need-returns-3
 returns-3 c =
     let y = c .before in
     let x = counted y in
-    (document-room-refuses (now (entry x .args .s)) _ _ (headed x .0) (valid y) (λ w. omega (arith, headed x .1, w .0)), (refl, refl))
+    (document-room-refuses (bytes x) _ _ (header x) (valid y) (λ w. omega (arith, nodes x .1 .0, w .0)), (refl, refl))
 
 returns-4 : tie.Need-returns-4
 returns-4 c =
     let y = c .before .before in
     let x = counted y in
-    (document-room-refuses (now (entry x .args .s)) _ _ (headed x .0) (valid y) (λ w. omega (arith, headed x .1, w .1)), (refl, refl))
+    (document-room-refuses (bytes x) _ _ (header x) (valid y) (λ w. omega (arith, nodes x .1 .0, w .1)), (refl, refl))
 
-decode-requires : tie.Need-decode-requires
-decode-requires c κs =
-    let x = counted (c .before .before .before) in
-    let h = headed x in
-    let z = h .0 .1 .1 .0 in
-    (omega arith, omega (arith, z .2, z .3, h .1), omega arith, omega (arith, z .3, z .4, h .1))
+slice-aggregate-copy : tie.Need-slice-aggregate-copy
+slice-aggregate-copy c = search needs
 
-decode-requires-2 : tie.Need-decode-requires-2
-decode-requires-2 c κs =
-    let x = counted (c .before .before .before .before .before .before .before) in
-    let h = headed x in
-    let z = h .0 .1 .1 .0 in
-    (omega arith, omega (arith, z .2, z .3, h .1), omega arith, omega (arith, z .3, z .4, h .1))
+copy-requires : tie.Need-copy-requires
+copy-requires c κs =
+    let x = counted (c .before .before .before .before) in
+    (omega (arith, few x, x .before .before .before .before .read-nodes .kept), omega arith, few x)
+
+slice-aggregate-copy-2 : tie.Need-slice-aggregate-copy-2
+slice-aggregate-copy-2 c = search needs
+
+copy-requires-2 : tie.Need-copy-requires-2
+copy-requires-2 c κs =
+    let x = counted (c .before .before .before .before .before .before .before .before .before) in
+    (omega (arith, few x, x .before .before .before .before .read-nodes .kept), omega arith, few x)
 
 same-length : tie.Need-same-length
 same-length c = search needs
@@ -97,20 +138,17 @@ same-length-2 : tie.Need-same-length-2
 same-length-2 c = search needs
 
 returns-5 : tie.Need-returns-5
-unfolding packetDocument
 returns-5 c =
-    let e = c .before .before .before .before .before .before in
-    let y = e .before .before .before .before in
+    let y = c .before .before .before .before .before .before .before .before .before .before .before .before in
     let x = counted y in
-    let bs = now (entry x .args .s) in
     let n = x .n .given .0 .0 in
     let p = now (entry x .args .parents) in
     let l = now (entry x .args .labels) in (
-      document-passes bs (length p) (length l) (headed x .0) (valid y) (omega (arith, headed x .1)) (omega (arith, headed x .1)),
+      document-passes (bytes x) (length p) (length l) (header x) (valid y) (omega (arith, nodes x .1 .0, c .before .before .before .before .before .before .before .before .before .before .before .if1 .left)) (omega (arith, nodes x .1 .0, c .before .before .before .before .before .before .before .before .before .before .if2 .left)),
       (
-        headed x .1,
-        e .decode .ensures ∙ ap (λ m. column (λ i. half bs (3 + 4 * i)) m ++ drop n p) (headed x .1),
-        c .before .before .decode2 .ensures ∙ ap (λ m. column (λ i. half bs (5 + 4 * i)) m ++ drop n l) (headed x .1),
+        nodes x .1 .0,
+        c .before .before .before .before .before .before .before .copy .ensures ∙ ap (λ d. d .parents ++ drop n p) (fronts x),
+        c .before .before .copy2 .ensures ∙ ap (λ d. d .labels ++ drop n l) (fronts x),
       ),
     )
 
@@ -118,18 +156,26 @@ pub read-document-spec : {M : Type 1} → statement M
 read-document-spec =
     tie.close
     (tie.spec
-    rows-in-requires
+    slice-aggregate-read-nodes
+    slice-aggregate-read-nodes-2
+    read-nodes-requires
     enum-known-n
     enum-known-r
     returns
-    check-nodes-requires
+    array-share-prefix-own-parents
+    slice-aggregate-check-document
+    array-share-prefix-own-labels
+    slice-aggregate-check-document-2
+    check-document-requires
     enum-known-r-2
     returns-2
     enum-told
     returns-3
     returns-4
-    decode-requires
-    decode-requires-2
+    slice-aggregate-copy
+    copy-requires
+    slice-aggregate-copy-2
+    copy-requires-2
     same-length
     same-length-2
     returns-5)

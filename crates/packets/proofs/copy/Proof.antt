@@ -1,0 +1,72 @@
+-- `packets::copy` meets its contract: the numbers before the one looked at stand in the list, which keeps its other entries. Assumes nothing.
+use Prim.Native.Nat.{_-_, _≤_}
+use mathlib.Core.Path.{_≡_}
+use mathlib.Core.List.{_++_}
+use native.Mathlib.Omega.{arith}
+use lib.ListN.{length, take, drop, length-set}
+use denote.Ref.{now}
+use borrow.Author.Needs.{needs}
+use Rattle.packets.proofs.Reading.{copy-next}
+use Rattle.packets.proofs.copy.Statement.{statement}
+use Rattle.packets.proofs.copy.Tie as tie
+
+abbrev Inv-loop : tie.InvT-loop
+Inv-loop src n dst₀ k₀ dst k = (k ≤ n) × (length dst ≡ length dst₀) × (dst ≡ take k src ++ drop k dst₀)
+
+abbrev μ-loop : tie.MeasureT-loop
+μ-loop src n dst₀ k₀ dst k = n - k
+
+loop-holds : tie.Need-loop-holds Inv-loop μ-loop
+loop-holds c = search needs
+
+mul-dst : tie.Need-mul-dst Inv-loop μ-loop
+mul-dst c = search needs
+
+shared-slice-read-dst : tie.Need-shared-slice-read-dst Inv-loop μ-loop
+shared-slice-read-dst c = search needs
+
+mul-dst-2 : tie.Need-mul-dst-2 Inv-loop μ-loop
+mul-dst-2 c = search needs
+
+slice-write-dst : tie.Need-slice-write-dst Inv-loop μ-loop
+slice-write-dst c = search needs
+
+add-k : tie.Need-add-k Inv-loop μ-loop
+add-k c = search needs
+
+loop-less : tie.Need-loop-less Inv-loop μ-loop
+loop-less c = search needs
+
+loop-again : tie.Need-loop-again Inv-loop μ-loop
+loop-again c =
+    let v = c .before .before .loop .inv in
+    let x = c .before .before .before .args in (
+      omega arith,
+      simp length-set (v .1),
+      rw (v .2) (copy-next (now (x .src)) (now (x .dst)) (c .before .before .loop .k) (omega arith) (omega arith)),
+    )
+
+same-length : tie.Need-same-length Inv-loop μ-loop
+same-length c = search needs
+
+returns : tie.Need-returns Inv-loop μ-loop
+returns c =
+    let e : c .before .loop .k ≡ c .before .before .args .n = omega arith in
+    rw e at (c .before .loop .inv .2)
+
+pub copy-spec : {M : Type 1} → statement M
+copy-spec =
+    tie.close
+    (tie.spec
+    Inv-loop
+    μ-loop
+    loop-holds
+    mul-dst
+    shared-slice-read-dst
+    mul-dst-2
+    slice-write-dst
+    add-k
+    loop-less
+    loop-again
+    same-length
+    returns)
