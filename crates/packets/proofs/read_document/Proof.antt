@@ -121,7 +121,7 @@ slice-aggregate-copy c = search needs
 copy-requires : tie.Need-copy-requires
 copy-requires c κs =
     let x = counted (c .before .before .before .before) in
-    (omega (arith, few x, x .before .before .before .before .read-nodes .kept), omega arith, few x)
+    (omega (arith, few x, x .before .before .before .before .read-nodes .kept), omega arith, omega (arith, few x))
 
 slice-aggregate-copy-2 : tie.Need-slice-aggregate-copy-2
 slice-aggregate-copy-2 c = search needs
@@ -129,7 +129,7 @@ slice-aggregate-copy-2 c = search needs
 copy-requires-2 : tie.Need-copy-requires-2
 copy-requires-2 c κs =
     let x = counted (c .before .before .before .before .before .before .before .before .before) in
-    (omega (arith, few x, x .before .before .before .before .read-nodes .kept), omega arith, few x)
+    (omega (arith, few x, x .before .before .before .before .read-nodes .kept), omega arith, omega (arith, few x))
 
 same-length : tie.Need-same-length
 same-length c = search needs
@@ -143,12 +143,14 @@ returns-5 c =
     let x = counted y in
     let n = x .n .given .0 .0 in
     let p = now (entry x .args .parents) in
-    let l = now (entry x .args .labels) in (
+    let l = now (entry x .args .labels) in
+    let e : c .before .before .before .before .before .before .before .copy .last .1 .1 .0 ≡ take n (parents x) ++ drop n p = c .before .before .before .before .before .before .before .copy .ensures in
+    let f : c .before .before .copy2 .last .1 .1 .0 ≡ take n (labels x) ++ drop n l = c .before .before .copy2 .ensures in (
       document-passes (bytes x) (length p) (length l) (header x) (valid y) (omega (arith, nodes x .1 .0, c .before .before .before .before .before .before .before .before .before .before .before .if1 .left)) (omega (arith, nodes x .1 .0, c .before .before .before .before .before .before .before .before .before .before .if2 .left)),
       (
         nodes x .1 .0,
-        c .before .before .before .before .before .before .before .copy .ensures ∙ ap (λ d. d .parents ++ drop n p) (fronts x),
-        c .before .before .copy2 .ensures ∙ ap (λ d. d .labels ++ drop n l) (fronts x),
+        e ∙ ap (λ d. d .parents ++ drop n p) (fronts x),
+        f ∙ ap (λ d. d .labels ++ drop n l) (fronts x),
       ),
     )
 

@@ -1,6 +1,6 @@
 -- `packets::read_nodes` meets its contract: the header's checks, the room, and then the two lists. Assumes nothing.
 use Prim.Native.Nat.{_+_, _*_}
-use mathlib.Core.Path.{refl, ap, _∙_, subst}
+use mathlib.Core.Path.{_≡_, refl, ap, _∙_, subst}
 use mathlib.Core.List.{_++_}
 use native.Mathlib.Omega.{arith}
 use lib.ListN.{length, drop}
@@ -73,12 +73,14 @@ returns-4 c =
     let bs = now (entry x .args .s) in
     let n = x .n .given .0 .0 in
     let p = now (entry x .args .parents) in
-    let l = now (entry x .args .labels) in (
+    let l = now (entry x .args .labels) in
+    let f : e .decode .last .1 .1 .1 .0 ≡ column (λ i. half bs (3 + 4 * i)) n ++ drop n p = e .decode .ensures in
+    let g : c .before .before .decode2 .last .1 .1 .1 .0 ≡ column (λ i. half bs (5 + 4 * i)) n ++ drop n l = c .before .before .decode2 .ensures in (
       nodes-pass bs (length p) (length l) (headed x .0) (omega (arith, headed x .1)) (omega (arith, headed x .1)),
       (
         headed x .1,
-        e .decode .ensures ∙ ap (λ m. column (λ i. half bs (3 + 4 * i)) m ++ drop n p) (headed x .1),
-        c .before .before .decode2 .ensures ∙ ap (λ m. column (λ i. half bs (5 + 4 * i)) m ++ drop n l) (headed x .1),
+        f ∙ ap (λ m. column (λ i. half bs (3 + 4 * i)) m ++ drop n p) (headed x .1),
+        g ∙ ap (λ m. column (λ i. half bs (5 + 4 * i)) m ++ drop n l) (headed x .1),
       ),
     )
 
