@@ -4,6 +4,7 @@ pub mod Checking
 pub mod PatternCalls
 pub mod ListCalls
 pub mod HalfBytes
+pub mod AskedCalls
 pub mod DocumentCalls
 pub mod StartCalls
 pub mod WitnessBytes

@@ -2,7 +2,8 @@
 --   halfBytes       the two bytes of an entry of a list
 --   packed          a list in bytes
 --   unpacked        the list that bytes are read as
---   firstOf         the first refusal of two answers
+--   AfterRules      which refusal is given where a later check has failed and the document's rules are still open
+--   Asked           what is known where both packets are read and the document's rules are still open
 --   ReadsAsked      what reading both packets gives
 --   Answered        what a call that answers leaves in the room
 --   roomCheck       the room for every node
@@ -14,17 +15,18 @@
 -- Assumes nothing.
 use Prim.Native.Nat.{ℕ, _*_, _/_, _%_, _≤_}
 use mathlib.Core.Path.{_≡_}
+use mathlib.Core.Logic.{_⊎_}
 use mathlib.Core.List.{List, [], _∷_, _++_}
-use lib.ListN.{length, getD, drop}
+use lib.ListN.{length, getD, take, drop}
 use Rattle.tables.specs.Column.{blocks, column}
-use Rattle.tables.specs.Document.{Document}
+use Rattle.tables.specs.Document.{Document, ValidDocument}
 use Rattle.tables.specs.Pattern.{Shape, shapeOf}
-use Rattle.tables.specs.Refusal.{Check, CountedBy}
+use Rattle.tables.specs.Refusal.{Check, Passes, Refuses, CountedBy}
 use Rattle.tables.specs.declared.Pattern.{Pattern}
-use Rattle.tables.specs.declared.Checked.{Checked}
-use Rattle.tables.specs.declared.Checked.the-variants as checked
+use Rattle.tables.specs.declared.Refusal.{Refusal}
+use Rattle.tables.specs.declared.Refusal.the-variants.{BadDocument}
 use Rattle.tables.specs.declared.Counted.{Counted}
-use Rattle.tables.specs.declared.Counted.the-variants as counted
+use Rattle.tables.specs.declared.Counted.the-variants.{Count, Refused}
 use Rattle.packets.specs.Bytes.{high, low, half}
 use Rattle.packets.specs.PatternPacket.{patternChecks}
 use Rattle.packets.specs.DocumentPacket.{nodesIn, packetDocument, documentRules}
@@ -43,16 +45,23 @@ packed xs = blocks (halfBytes xs) (length xs)
 unfoldable pub unpacked : List ℕ → List ℕ
 unpacked bs = column (λ k. half bs (2 * k)) (length bs / 2)
 
--- the first refusal of two answers, if there is one; else the count
-abbrev pub firstOf : Counted → Checked → Counted
-firstOf n checked.Right = n
-firstOf (counted.Count n) (checked.Refused r) = counted.Refused r
-firstOf (counted.Refused q) (checked.Refused r) = counted.Refused q
+-- q is the refusal of a document that breaks the rules; of any other it is r, which comes after them
+pub record AfterRules (d : Document) (r q : Refusal) : Type 0 where
+  pub says : ((ValidDocument d → ⊥) × (q ≡ BadDocument)) ⊎ (ValidDocument d × (q ≡ r))
 
--- the document is read into the fronts of two lists and the pattern beside it, where every check of the document's packet and then of the pattern's holds
+-- the document's packet is right but for the rules, which are open, and the pattern's packet is right; n nodes stand at the fronts of two lists, and p is the pattern
+pub record Asked (ds ps parents₀ labels₀ : List ℕ) (n : ℕ) (p : Pattern) (parents labels : List ℕ) : Type 0 where
+  pub header : Passes (take 3 (documentRules ds))
+  pub checked : Passes (patternChecks ps)
+  pub count : n ≡ nodesIn ds
+  pub parents-read : parents ≡ packetDocument ds .parents ++ drop n parents₀
+  pub labels-read : labels ≡ packetDocument ds .labels ++ drop n labels₀
+  pub pattern-read : p ≡ packetPattern ps
+
+-- a refusal is by the first check that fails, of the document's packet and then of the pattern's; a count leaves the document's rules open
 pub record ReadsAsked (ds ps parents₀ labels₀ : List ℕ) (r : Counted) (p : Pattern) (parents labels : List ℕ) : Type 0 where
-  pub says : CountedBy (documentRules ds ++ patternChecks ps) r (λ n. (n ≡ nodesIn ds) × (parents ≡ packetDocument ds .parents ++ drop n parents₀)
-      × (labels ≡ packetDocument ds .labels ++ drop n labels₀) × (p ≡ packetPattern ps)) (Unit {0})
+  pub refused : (q : Refusal) → r ≡ Refused q → Refuses (documentRules ds ++ patternChecks ps) q
+  pub read : (n : ℕ) → r ≡ Count n → Asked ds ps parents₀ labels₀ n p parents labels
 
 -- c answers stand at the front of the room, ascending, two bytes each
 pub record Answered (First : ℕ → Type 0) (A : Shape) (d : Document) (room₀ : List ℕ) (c : ℕ) (room : List ℕ) : Type 0 where

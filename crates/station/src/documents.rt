@@ -1,8 +1,7 @@
 // The calls on a document, as packets in and answers out (docs/RULES.md, "From C").
 ghost use Prim.Native.Nat.{_≤_};
-ghost use mathlib.Core.Path.{_≡_};
 ghost use lib.ListN.{length};
-ghost use Rattle.station.specs.Documents.{firstOf, ReadsAsked, AnswersPackets, StartsPackets};
+ghost use Rattle.station.specs.Documents.{AfterRules, ReadsAsked, AnswersPackets, StartsPackets};
 use crate::halves;
 use tables::Checked;
 use tables::Counted;
@@ -15,32 +14,46 @@ struct AskedRead {
     pattern: Pattern,
 }
 
-// The first refusal of two answers, if there is one; else the count.
-fn first_of(n: Counted, read: Checked) -> Counted
-    ensures { λ r. ⌜ r ≡ firstOf n read ⌝ }
+// The refusal of a document that breaks the rules; of any other, the one that comes after them.
+fn after_rules(parents: &[u16], labels: &[u16], r: Refusal) -> Refusal
+    ensures { λ q. ⌜ AfterRules (record { parents = now (parents .entry); labels = now (labels .entry) }) r q ⌝ }
 {
-    match read {
-        Checked::Right => n,
-        Checked::Refused(r) => match n {
-            Counted::Count(_) => Counted::Refused(r),
-            Counted::Refused(q) => Counted::Refused(q),
-        },
+    match tables::check_document(parents, labels) {
+        Checked::Right => r,
+        Checked::Refused(q) => q,
     }
 }
 
-// The document of one packet, into two lists with room for any, and the pattern of another; the document's packet is checked first.
+// The nodes of one packet, into two lists with room for any document, and the pattern of another. The document's rules are checked here only where the
+// pattern's packet is refused, since they come before it; else they are left to the call that answers, which checks them anyway.
 fn read_asked(document: &[u8], pattern: &[u8], parents: &mut [u16], labels: &mut [u16]) -> AskedRead
     requires { ⌜ (2048 ≤ length (now parents)) × (2048 ≤ length (now labels)) ⌝ }
     ensures { λ r. ⌜ ReadsAsked (now (document .entry)) (now (pattern .entry)) (now (parents .entry)) (now (labels .entry)) (r .answer) (r .pattern) (now (parents .exit)) (now (labels .exit)) ⌝ }
 {
-    let n = packets::read_document(document, parents, labels);
     let x = packets::read_pattern(pattern);
-    let read = x.answer;
+    let told = x.answer;
     let p = x.pattern;
-    let answer = first_of(n, read);
-    AskedRead {
-        answer: answer,
-        pattern: p,
+    let n = match packets::read_nodes(document, parents, labels) {
+        Counted::Count(n) => n,
+        Counted::Refused(r) => {
+            return AskedRead {
+                answer: Counted::Refused(r),
+                pattern: p,
+            };
+        }
+    };
+    match told {
+        Checked::Right => AskedRead {
+            answer: Counted::Count(n),
+            pattern: p,
+        },
+        Checked::Refused(r) => {
+            let q = after_rules(&parents[..n], &labels[..n], r);
+            AskedRead {
+                answer: Counted::Refused(q),
+                pattern: p,
+            }
+        }
     }
 }
 
@@ -58,11 +71,11 @@ pub(crate) fn answer_packets(document: &[u8], pattern: &[u8], room: &mut [u8]) -
         Counted::Count(n) => n,
         Counted::Refused(r) => return Counted::Refused(r),
     };
-    if room.len() / 2 < n {
-        return Counted::Refused(Refusal::Room);
-    }
     match answers::answers(x.pattern, &parents[..n], &labels[..n], &mut list, &mut work) {
         Counted::Count(c) => {
+            if room.len() / 2 < n {
+                return Counted::Refused(Refusal::Room);
+            }
             halves::put_halves(&list, c, room);
             Counted::Count(c)
         }
@@ -79,33 +92,28 @@ pub(crate) fn start_packets(
 ) -> Counted
     ensures { λ r. ⌜ StartsPackets (now (document .entry)) (now (pattern .entry)) (now (starts .entry)) (now (room .entry)) r (now (room .exit)) ⌝ }
 {
-    let mut parents = [0u16; 2048];
-    let mut labels = [0u16; 2048];
+    let mut own_parents = [0u16; 2048];
+    let mut own_labels = [0u16; 2048];
     let mut from = [0u16; 2048];
     let mut list = [0u16; 2048];
     let mut work = [0u64; 4096];
-    let x = read_asked(document, pattern, &mut parents, &mut labels);
+    let x = read_asked(document, pattern, &mut own_parents, &mut own_labels);
     let read = x.answer;
     let n = match read {
         Counted::Count(n) => n,
         Counted::Refused(r) => return Counted::Refused(r),
     };
+    let parents = &own_parents[..n];
+    let labels = &own_labels[..n];
     let k = starts.len() / 2;
     if starts.len() % 2 != 0 {
-        return Counted::Refused(Refusal::Start);
+        return Counted::Refused(after_rules(parents, labels, Refusal::Start));
     }
     if n < k {
-        return Counted::Refused(Refusal::Start);
+        return Counted::Refused(after_rules(parents, labels, Refusal::Start));
     }
     halves::get_halves(starts, k, &mut from);
-    match answers::started(
-        x.pattern,
-        &parents[..n],
-        &labels[..n],
-        &from[..k],
-        &mut list,
-        &mut work,
-    ) {
+    match answers::started(x.pattern, parents, labels, &from[..k], &mut list, &mut work) {
         Counted::Count(c) => {
             if room.len() / 2 < n {
                 return Counted::Refused(Refusal::Room);

@@ -1,11 +1,23 @@
 -- `station::documents::answer_packets` meets its contract: both packets are read, the answers found and written. Assumes nothing.
+use Prim.Native.Nat.{_≤_}
 use mathlib.Core.Path.{refl}
 use native.Mathlib.Omega.{arith}
-use lib.ListN.{length-take}
-use Rattle.station.proofs.DocumentCalls.{asked-is, asked-few, answers-unread, answers-room, answers-count, answers-packed, answers-answered}
+use lib.ListN.{replicate, length-take}
+use denote.Ref.{now}
+use Rattle.station.specs.Documents.{Asked}
+use Rattle.station.proofs.AskedCalls.{asked-few}
+use Rattle.station.proofs.DocumentCalls.{answers-unread, answers-refused, answers-room, answers-count, answers-packed}
 use borrow.Author.Needs.{needs}
 use Rattle.station.proofs.documents.answer_packets.Statement.{statement}
 use Rattle.station.proofs.documents.answer_packets.Tie as tie
+
+-- where the nodes are counted both packets are read, the document's rules still open
+asked : (x : tie.After-read) → Asked (now (x .before .before .before .before .before .before .before .before .before .before .args .document)) (now (x .before .before .before .before .before .before .before .before .before .before .args .pattern)) (replicate 2048 0) (replicate 2048 0)
+    (x .read .given .0 .0) (x .before .before .before .before .read-asked .result .pattern) (x .before .before .before .before .read-asked .last .1 .1 .0) (x .before .before .before .before .read-asked .last .1 .1 .1 .0)
+asked x = x .before .before .before .before .read-asked .ensures .read (x .read .given .0 .0) (x .read .given .1)
+
+few : (x : tie.After-read) → x .read .given .0 .0 ≤ 2048
+few x = asked-few (asked x)
 
 slice-aggregate-read-asked : tie.Need-slice-aggregate-read-asked
 slice-aggregate-read-asked c = search needs
@@ -23,22 +35,19 @@ enum-known-read-2 : tie.Need-enum-known-read-2
 enum-known-read-2 c = search needs
 
 returns : tie.Need-returns
-returns c = answers-unread _ _ _ _ _ _ _ _ (c .before .read2 .given .0 .0) _ (asked-is (c .before .read2 .given .1) (c .before .before .before .before .before .read-asked .ensures)) refl
-
-returns-2 : tie.Need-returns-2
-returns-2 c = answers-room _ _ _ _ _ _ _ _ (asked-is (c .before .before .read .given .1) (c .before .before .before .before .before .before .read-asked .ensures)) _ _ (λ m. omega arith) refl
+returns c = answers-unread (c .before .before .before .before .before .read-asked .ensures) _ _ (c .before .read2 .given .0 .0) (c .before .read2 .given .1) refl
 
 array-share-prefix-parents : tie.Need-array-share-prefix-parents
-array-share-prefix-parents c = omega (arith, asked-few _ _ _ _ _ _ _ _ (asked-is (c .before .before .read .given .1) (c .before .before .before .before .before .before .read-asked .ensures)), c .before .before .before .before .before .before .read-asked .kept)
+array-share-prefix-parents c = omega (arith, few (c .before), c .before .before .before .before .before .read-asked .kept)
 
 slice-aggregate-answers : tie.Need-slice-aggregate-answers
-slice-aggregate-answers c = simp length-take (omega (arith, asked-few _ _ _ _ _ _ _ _ (asked-is (c .before .before .before .read .given .1) (c .before .before .before .before .before .before .before .read-asked .ensures)), c .before .before .before .before .before .before .before .read-asked .kept))
+slice-aggregate-answers c = simp length-take (omega (arith, few (c .before .before), c .before .before .before .before .before .before .read-asked .kept))
 
 array-share-prefix-labels : tie.Need-array-share-prefix-labels
-array-share-prefix-labels c = omega (arith, asked-few _ _ _ _ _ _ _ _ (asked-is (c .before .before .before .read .given .1) (c .before .before .before .before .before .before .before .read-asked .ensures)), c .before .before .before .before .before .before .before .read-asked .kept)
+array-share-prefix-labels c = omega (arith, few (c .before .before), c .before .before .before .before .before .before .read-asked .kept)
 
 slice-aggregate-answers-2 : tie.Need-slice-aggregate-answers-2
-slice-aggregate-answers-2 c = simp length-take (omega (arith, asked-few _ _ _ _ _ _ _ _ (asked-is (c .before .before .before .before .read .given .1) (c .before .before .before .before .before .before .before .before .read-asked .ensures)), c .before .before .before .before .before .before .before .before .read-asked .kept))
+slice-aggregate-answers-2 c = simp length-take (omega (arith, few (c .before .before .before), c .before .before .before .before .before .before .before .read-asked .kept))
 
 slice-aggregate-answers-3 : tie.Need-slice-aggregate-answers-3
 slice-aggregate-answers-3 c = search needs
@@ -52,15 +61,20 @@ answers-requires c κs = search needs
 enum-known-c : tie.Need-enum-known-c
 enum-known-c c = search needs
 
+returns-2 : tie.Need-returns-2
+returns-2 c =
+    let w = c .before .before .before .before .before .before .answers in
+    answers-room (asked (c .before .before .before .before .before .before .before .before .before .before .before .before)) (w .last .1 .1 .1 .0) (w .last .1 .1 .1 .1 .0) (w .result) (w .ensures) (c .before .before .c .given .0 .0) (c .before .before .c .given .1) _ _ (λ m. omega arith) refl
+
 slice-aggregate-put-halves : tie.Need-slice-aggregate-put-halves
 slice-aggregate-put-halves c = search needs
 
 put-halves-requires : tie.Need-put-halves-requires
 put-halves-requires c κs =
-    let t = (asked-is (c .before .before .before .before .before .before .before .before .before .before .before .before .before .before .read .given .1) (c .before .before .before .before .before .before .before .before .before .before .before .before .before .before .before .before .before .before .read-asked .ensures)) in
-    let w = c .before .before .before .before .before .before .before .answers in
-    let k = answers-count _ _ _ _ _ _ _ _ t (w .last .1 .1 .1 .0) (w .last .1 .1 .1 .1 .0) (w .result) (w .ensures) (c .before .before .before .c .given .0 .0) (c .before .before .before .c .given .1) in
-    (omega (arith, k, asked-few _ _ _ _ _ _ _ _ t, w .kept), omega (arith, k, asked-few _ _ _ _ _ _ _ _ t), omega (arith, k))
+    let x = c .before .before .before .before .before .before .before .before .before .before .before .before .before .before in
+    let w = c .before .before .before .before .before .before .before .before .answers in
+    let k = answers-count (asked x) (w .last .1 .1 .1 .0) (w .last .1 .1 .1 .1 .0) (w .result) (w .ensures) (c .before .before .before .before .c .given .0 .0) (c .before .before .before .before .c .given .1) in
+    (omega (arith, k, few x, w .kept), omega (arith, k, few x), omega (arith, k))
 
 enum-known-r : tie.Need-enum-known-r
 enum-known-r c = search needs
@@ -70,14 +84,13 @@ same-length c = search needs
 
 returns-3 : tie.Need-returns-3
 returns-3 c =
-    let w = c .before .before .before .before .before .before .before .before .before .before .answers in
-    let o = c .before .before .put-halves in
-    answers-packed _ _ _ _ _ _ _ _ (asked-is (c .before .before .before .before .before .before .before .before .before .before .before .before .before .before .before .before .before .read .given .1) (c .before .before .before .before .before .before .before .before .before .before .before .before .before .before .before .before .before .before .before .before .before .read-asked .ensures)) (w .last .1 .1 .1 .0) (w .last .1 .1 .1 .1 .0) (w .result) (w .ensures) _ _ (c .before .before .before .before .before .before .c .given .0 .0) (c .before .before .before .before .before .before .c .given .1) (omega arith) (o .ensures)
+    let w = c .before .before .before .before .before .before .before .before .before .before .before .answers in
+    answers-packed (asked (c .before .before .before .before .before .before .before .before .before .before .before .before .before .before .before .before .before)) (w .last .1 .1 .1 .0) (w .last .1 .1 .1 .1 .0) (w .result) (w .ensures) (c .before .before .before .before .before .before .before .c .given .0 .0) (c .before .before .before .before .before .before .before .c .given .1) _ _ (omega arith) (c .before .before .put-halves .ensures)
 
 returns-4 : tie.Need-returns-4
 returns-4 c =
     let w = c .before .before .before .before .before .answers in
-    absurd (answers-answered _ _ _ _ _ _ _ _ (asked-is (c .before .before .before .before .before .before .before .before .before .before .before .before .read .given .1) (c .before .before .before .before .before .before .before .before .before .before .before .before .before .before .before .before .read-asked .ensures)) (w .last .1 .1 .1 .0) (w .last .1 .1 .1 .1 .0) (w .result) (w .ensures) (c .before .r .given .0 .0) (c .before .r .given .1))
+    answers-refused (asked (c .before .before .before .before .before .before .before .before .before .before .before)) (w .last .1 .1 .1 .0) (w .last .1 .1 .1 .1 .0) (w .result) (w .ensures) _ _ (c .before .r .given .0 .0) (c .before .r .given .1) refl
 
 pub answer-packets-spec : {M : Type 1} → statement M
 answer-packets-spec =
@@ -89,7 +102,6 @@ answer-packets-spec =
     enum-known-read
     enum-known-read-2
     returns
-    returns-2
     array-share-prefix-parents
     slice-aggregate-answers
     array-share-prefix-labels
@@ -98,6 +110,7 @@ answer-packets-spec =
     slice-aggregate-answers-4
     answers-requires
     enum-known-c
+    returns-2
     slice-aggregate-put-halves
     put-halves-requires
     enum-known-r

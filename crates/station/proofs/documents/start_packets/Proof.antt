@@ -1,13 +1,27 @@
 -- `station::documents::start_packets` meets its contract: both packets and the start nodes are read, the answers found and written. Assumes nothing.
+use Prim.Native.Nat.{_≤_}
 use mathlib.Core.Path.{refl}
 use native.Mathlib.Omega.{arith}
-use lib.ListN.{length-take}
+use lib.ListN.{replicate, length-take}
 use denote.Ref.{now}
-use Rattle.station.proofs.DocumentCalls.{asked-is, asked-few}
+use Rattle.station.specs.Documents.{Asked}
+use Rattle.station.proofs.AskedCalls.{asked-few}
 use Rattle.station.proofs.StartCalls.{starts-unread, starts-odd, starts-many, starts-refused, starts-count, starts-room, starts-packed}
 use borrow.Author.Needs.{needs}
 use Rattle.station.proofs.documents.start_packets.Statement.{statement}
 use Rattle.station.proofs.documents.start_packets.Tie as tie
+
+-- the entry, seen from where the nodes are counted
+abbrev entry : tie.After-read → tie.Start
+entry x = x .before .before .before .before .before .before .before .before .before .before .before
+
+-- there both packets are read, the document's rules still open
+asked : (x : tie.After-read) → Asked (now (entry x .args .document)) (now (entry x .args .pattern)) (replicate 2048 0) (replicate 2048 0)
+    (x .read .given .0 .0) (x .before .before .before .before .read-asked .result .pattern) (x .before .before .before .before .read-asked .last .1 .1 .0) (x .before .before .before .before .read-asked .last .1 .1 .1 .0)
+asked x = x .before .before .before .before .read-asked .ensures .read (x .read .given .0 .0) (x .read .given .1)
+
+few : (x : tie.After-read) → x .read .given .0 .0 ≤ 2048
+few x = asked-few (asked x)
 
 slice-aggregate-read-asked : tie.Need-slice-aggregate-read-asked
 slice-aggregate-read-asked c = search needs
@@ -25,43 +39,49 @@ enum-known-read-2 : tie.Need-enum-known-read-2
 enum-known-read-2 c = search needs
 
 returns : tie.Need-returns
-returns c = starts-unread _ _ _ _ _ _ _ _ _ (c .before .read2 .given .0 .0) _ (asked-is (c .before .read2 .given .1) (c .before .before .before .before .before .read-asked .ensures)) refl
+returns c = starts-unread (c .before .before .before .before .before .read-asked .ensures) (now (c .before .before .before .before .before .before .before .before .before .before .before .before .args .starts)) _ _ (c .before .read2 .given .0 .0) (c .before .read2 .given .1) refl
+
+array-share-prefix-own-parents : tie.Need-array-share-prefix-own-parents
+array-share-prefix-own-parents c = omega (arith, few (c .before), c .before .before .before .before .before .read-asked .kept)
+
+slice-aggregate-parents : tie.Need-slice-aggregate-parents
+slice-aggregate-parents c = simp length-take (omega (arith, few (c .before .before), c .before .before .before .before .before .before .read-asked .kept))
+
+array-share-prefix-own-labels : tie.Need-array-share-prefix-own-labels
+array-share-prefix-own-labels c = omega (arith, few (c .before .before), c .before .before .before .before .before .before .read-asked .kept)
+
+slice-aggregate-labels : tie.Need-slice-aggregate-labels
+slice-aggregate-labels c = simp length-take (omega (arith, few (c .before .before .before), c .before .before .before .before .before .before .before .read-asked .kept))
+
+after-rules-requires : tie.Need-after-rules-requires
+after-rules-requires c κs = search needs
 
 returns-2 : tie.Need-returns-2
-returns-2 c = starts-odd _ _ (now (c .before .before .before .before .before .before .before .before .before .before .before .before .before .args .starts)) _ _ _ _ _ _ (asked-is (c .before .before .read .given .1) (c .before .before .before .before .before .before .read-asked .ensures)) _ _ (λ m. omega arith) refl
+returns-2 c = let x = c .before .before .before .before .before in starts-odd (asked x) (now (entry x .args .starts)) _ _ (c .after-rules .result) (λ m. omega arith) (c .after-rules .ensures) refl
+
+after-rules-requires-2 : tie.Need-after-rules-requires-2
+after-rules-requires-2 c κs = search needs
 
 returns-3 : tie.Need-returns-3
-returns-3 c = starts-many _ _ (now (c .before .before .before .before .before .before .before .before .before .before .before .before .before .before .args .starts)) _ _ _ _ _ _ (asked-is (c .before .before .before .read .given .1) (c .before .before .before .before .before .before .before .read-asked .ensures)) _ _ (omega arith) refl
+returns-3 c = let x = c .before .before .before .before .before .before in starts-many (asked x) (now (entry x .args .starts)) _ _ (c .after-rules2 .result) (omega arith) (c .after-rules2 .ensures) refl
 
 slice-aggregate-get-halves : tie.Need-slice-aggregate-get-halves
 slice-aggregate-get-halves c = search needs
 
 get-halves-requires : tie.Need-get-halves-requires
-get-halves-requires c κs = (omega arith, omega (arith, asked-few _ _ _ _ _ _ _ _ (asked-is (c .before .before .before .before .read .given .1) (c .before .before .before .before .before .before .before .before .read-asked .ensures))), omega (arith, asked-few _ _ _ _ _ _ _ _ (asked-is (c .before .before .before .before .read .given .1) (c .before .before .before .before .before .before .before .before .read-asked .ensures))))
-
-array-share-prefix-parents : tie.Need-array-share-prefix-parents
-array-share-prefix-parents c = omega (arith, asked-few _ _ _ _ _ _ _ _ (asked-is (c .before .before .before .before .before .before .read .given .1) (c .before .before .before .before .before .before .before .before .before .before .read-asked .ensures)), c .before .before .before .before .before .before .before .before .before .before .read-asked .kept)
-
-slice-aggregate-started : tie.Need-slice-aggregate-started
-slice-aggregate-started c = simp length-take (omega (arith, asked-few _ _ _ _ _ _ _ _ (asked-is (c .before .before .before .before .before .before .before .read .given .1) (c .before .before .before .before .before .before .before .before .before .before .before .read-asked .ensures)), c .before .before .before .before .before .before .before .before .before .before .before .read-asked .kept))
-
-array-share-prefix-labels : tie.Need-array-share-prefix-labels
-array-share-prefix-labels c = omega (arith, asked-few _ _ _ _ _ _ _ _ (asked-is (c .before .before .before .before .before .before .before .read .given .1) (c .before .before .before .before .before .before .before .before .before .before .before .read-asked .ensures)), c .before .before .before .before .before .before .before .before .before .before .before .read-asked .kept)
-
-slice-aggregate-started-2 : tie.Need-slice-aggregate-started-2
-slice-aggregate-started-2 c = simp length-take (omega (arith, asked-few _ _ _ _ _ _ _ _ (asked-is (c .before .before .before .before .before .before .before .before .read .given .1) (c .before .before .before .before .before .before .before .before .before .before .before .before .read-asked .ensures)), c .before .before .before .before .before .before .before .before .before .before .before .before .read-asked .kept))
+get-halves-requires c κs = let x = c .before .before .before .before .before .before in (omega arith, omega (arith, few x), omega (arith, few x))
 
 array-share-prefix-from : tie.Need-array-share-prefix-from
-array-share-prefix-from c = omega (arith, asked-few _ _ _ _ _ _ _ _ (asked-is (c .before .before .before .before .before .before .before .before .read .given .1) (c .before .before .before .before .before .before .before .before .before .before .before .before .read-asked .ensures)), c .before .before .before .get-halves .kept)
+array-share-prefix-from c = omega (arith, few (c .before .before .before .before .before .before .before .before), c .before .get-halves .kept)
+
+slice-aggregate-started : tie.Need-slice-aggregate-started
+slice-aggregate-started c = simp length-take (omega (arith, few (c .before .before .before .before .before .before .before .before .before), c .before .before .get-halves .kept))
+
+slice-aggregate-started-2 : tie.Need-slice-aggregate-started-2
+slice-aggregate-started-2 c = search needs
 
 slice-aggregate-started-3 : tie.Need-slice-aggregate-started-3
-slice-aggregate-started-3 c = simp length-take (omega (arith, asked-few _ _ _ _ _ _ _ _ (asked-is (c .before .before .before .before .before .before .before .before .before .read .given .1) (c .before .before .before .before .before .before .before .before .before .before .before .before .before .read-asked .ensures)), c .before .before .before .before .get-halves .kept))
-
-slice-aggregate-started-4 : tie.Need-slice-aggregate-started-4
-slice-aggregate-started-4 c = search needs
-
-slice-aggregate-started-5 : tie.Need-slice-aggregate-started-5
-slice-aggregate-started-5 c = search needs
+slice-aggregate-started-3 c = search needs
 
 started-requires : tie.Need-started-requires
 started-requires c κs = search needs
@@ -71,20 +91,24 @@ enum-known-c c = search needs
 
 returns-4 : tie.Need-returns-4
 returns-4 c =
+    let x = c .before .before .before .before .before .before .before .before .before .before .before .before .before .before .before .before .before .before in
+    let g = c .before .before .before .before .before .before .before .before .before .before .before .get-halves in
     let w = c .before .before .before .before .before .before .started in
-    let g = c .before .before .before .before .before .before .before .before .before .before .before .before .before .get-halves in
-    starts-room _ _ (now (c .before .before .before .before .before .before .before .before .before .before .before .before .before .before .before .before .before .before .before .before .before .before .before .before .before .before .before .before .before .args .starts)) _ _ _ _ _ _ (asked-is (c .before .before .before .before .before .before .before .before .before .before .before .before .before .before .before .before .before .before .read .given .1) (c .before .before .before .before .before .before .before .before .before .before .before .before .before .before .before .before .before .before .before .before .before .before .read-asked .ensures)) (g .last .1 .1 .0) (w .last .1 .1 .1 .1 .0) (w .last .1 .1 .1 .1 .1 .0) (g .ensures) (omega arith) (w .result) (w .ensures) (c .before .before .c .given .0 .0) (c .before .before .c .given .1) _ _ (λ m. omega arith) refl
+    starts-room (asked x) (now (entry x .args .starts)) (g .last .1 .1 .0) (w .last .1 .1 .1 .1 .0) (w .last .1 .1 .1 .1 .1 .0) (g .ensures) (omega (arith, c .before .before .before .before .before .before .before .before .before .before .before .before .before .before .if1 .left)) (w .result) (w .ensures)
+    (c .before .before .c .given .0 .0) (c .before .before .c .given .1) _ _ (λ m. omega arith) refl
 
 slice-aggregate-put-halves : tie.Need-slice-aggregate-put-halves
 slice-aggregate-put-halves c = search needs
 
 put-halves-requires : tie.Need-put-halves-requires
 put-halves-requires c κs =
-    let t = (asked-is (c .before .before .before .before .before .before .before .before .before .before .before .before .before .before .before .before .before .before .before .before .read .given .1) (c .before .before .before .before .before .before .before .before .before .before .before .before .before .before .before .before .before .before .before .before .before .before .before .before .read-asked .ensures)) in
+    let x = c .before .before .before .before .before .before .before .before .before .before .before .before .before .before .before .before .before .before .before .before in
+    let g = c .before .before .before .before .before .before .before .before .before .before .before .before .before .get-halves in
     let w = c .before .before .before .before .before .before .before .before .started in
-    let g = c .before .before .before .before .before .before .before .before .before .before .before .before .before .before .before .get-halves in
-    let k = starts-count _ _ (now (c .before .before .before .before .before .before .before .before .before .before .before .before .before .before .before .before .before .before .before .before .before .before .before .before .before .before .before .before .before .before .before .args .starts)) _ _ _ _ _ _ t (g .last .1 .1 .0) (w .last .1 .1 .1 .1 .0) (w .last .1 .1 .1 .1 .1 .0) (g .ensures) (omega arith) (w .result) (w .ensures) (c .before .before .before .before .c .given .0 .0) (c .before .before .before .before .c .given .1) in
-    (omega (arith, k, asked-few _ _ _ _ _ _ _ _ t, w .kept), omega (arith, k, asked-few _ _ _ _ _ _ _ _ t), omega (arith, k))
+    let k =
+    starts-count (asked x) (now (entry x .args .starts)) (g .last .1 .1 .0) (w .last .1 .1 .1 .1 .0) (w .last .1 .1 .1 .1 .1 .0) (g .ensures) (omega (arith, c .before .before .before .before .before .before .before .before .before .before .before .before .before .before .before .before .if1 .left)) (w .result) (w .ensures)
+    (c .before .before .before .before .c .given .0 .0) (c .before .before .before .before .c .given .1) in
+    (omega (arith, k, few x, w .kept), omega (arith, k, few x), omega (arith, k))
 
 enum-known-r : tie.Need-enum-known-r
 enum-known-r c = search needs
@@ -94,15 +118,19 @@ same-length c = search needs
 
 returns-5 : tie.Need-returns-5
 returns-5 c =
+    let x = c .before .before .before .before .before .before .before .before .before .before .before .before .before .before .before .before .before .before .before .before .before .before .before in
+    let g = c .before .before .before .before .before .before .before .before .before .before .before .before .before .before .before .before .get-halves in
     let w = c .before .before .before .before .before .before .before .before .before .before .before .started in
-    let g = c .before .before .before .before .before .before .before .before .before .before .before .before .before .before .before .before .before .before .get-halves in
-    starts-packed _ _ (now (c .before .before .before .before .before .before .before .before .before .before .before .before .before .before .before .before .before .before .before .before .before .before .before .before .before .before .before .before .before .before .before .before .before .before .args .starts)) _ _ _ _ _ _ (asked-is (c .before .before .before .before .before .before .before .before .before .before .before .before .before .before .before .before .before .before .before .before .before .before .before .read .given .1) (c .before .before .before .before .before .before .before .before .before .before .before .before .before .before .before .before .before .before .before .before .before .before .before .before .before .before .before .read-asked .ensures)) (g .last .1 .1 .0) (w .last .1 .1 .1 .1 .0) (w .last .1 .1 .1 .1 .1 .0) (g .ensures) (omega arith) (w .result) (w .ensures) (c .before .before .before .before .before .before .before .c .given .0 .0) (c .before .before .before .before .before .before .before .c .given .1) _ _ (omega arith) (c .before .before .put-halves .ensures)
+    starts-packed (asked x) (now (entry x .args .starts)) (g .last .1 .1 .0) (w .last .1 .1 .1 .1 .0) (w .last .1 .1 .1 .1 .1 .0) (g .ensures) (omega (arith, c .before .before .before .before .before .before .before .before .before .before .before .before .before .before .before .before .before .before .before .if1 .left)) (w .result) (w .ensures)
+    (c .before .before .before .before .before .before .before .c .given .0 .0) (c .before .before .before .before .before .before .before .c .given .1) _ _ (omega arith) (c .before .before .put-halves .ensures)
 
 returns-6 : tie.Need-returns-6
 returns-6 c =
+    let x = c .before .before .before .before .before .before .before .before .before .before .before .before .before .before .before .before .before in
+    let g = c .before .before .before .before .before .before .before .before .before .before .get-halves in
     let w = c .before .before .before .before .before .started in
-    let g = c .before .before .before .before .before .before .before .before .before .before .before .before .get-halves in
-    starts-refused _ _ (now (c .before .before .before .before .before .before .before .before .before .before .before .before .before .before .before .before .before .before .before .before .before .before .before .before .before .before .before .before .args .starts)) _ _ _ _ _ _ (asked-is (c .before .before .before .before .before .before .before .before .before .before .before .before .before .before .before .before .before .read .given .1) (c .before .before .before .before .before .before .before .before .before .before .before .before .before .before .before .before .before .before .before .before .before .read-asked .ensures)) (g .last .1 .1 .0) (w .last .1 .1 .1 .1 .0) (w .last .1 .1 .1 .1 .1 .0) (g .ensures) (omega arith) (w .result) (w .ensures) _ _ (c .before .r .given .0 .0) (c .before .r .given .1) refl
+    starts-refused (asked x) (now (entry x .args .starts)) (g .last .1 .1 .0) (w .last .1 .1 .1 .1 .0) (w .last .1 .1 .1 .1 .1 .0) (g .ensures) (omega (arith, c .before .before .before .before .before .before .before .before .before .before .before .before .before .if1 .left)) (w .result) (w .ensures)
+    _ _ (c .before .r .given .0 .0) (c .before .r .given .1) refl
 
 pub start-packets-spec : {M : Type 1} → statement M
 start-packets-spec =
@@ -114,18 +142,20 @@ start-packets-spec =
     enum-known-read
     enum-known-read-2
     returns
+    array-share-prefix-own-parents
+    slice-aggregate-parents
+    array-share-prefix-own-labels
+    slice-aggregate-labels
+    after-rules-requires
     returns-2
+    after-rules-requires-2
     returns-3
     slice-aggregate-get-halves
     get-halves-requires
-    array-share-prefix-parents
-    slice-aggregate-started
-    array-share-prefix-labels
-    slice-aggregate-started-2
     array-share-prefix-from
+    slice-aggregate-started
+    slice-aggregate-started-2
     slice-aggregate-started-3
-    slice-aggregate-started-4
-    slice-aggregate-started-5
     started-requires
     enum-known-c
     returns-4

@@ -1,0 +1,105 @@
+-- Reading a document's packet and a pattern's, from the contracts of the calls that do it, and what is known of the document afterwards. Assumes nothing.
+use Prim.Native.Nat.{ℕ, _≤_}
+use mathlib.Core.Path.{_≡_, sym, ap, _∙_, subst}
+use mathlib.Core.Logic.{inl, inr, ⊎-elim}
+use mathlib.Core.List.{List, _++_}
+use native.Mathlib.Omega.{arith}
+use lib.ListN.{length, take, drop}
+use Rattle.tables.specs.Document.{nodeCount, ValidDocument}
+use Rattle.tables.specs.Pattern.{zeroPattern, ValidPattern}
+use Rattle.tables.specs.Refusal.{number, Check, Passes, Refuses, Decided}
+use Rattle.tables.specs.declared.Refusal.{Refusal}
+use Rattle.tables.specs.declared.Pattern.{Pattern}
+use Rattle.tables.specs.declared.Checked.{Checked}
+use Rattle.tables.specs.declared.Checked.the-variants as checked
+use Rattle.tables.specs.declared.Counted.{Counted}
+use Rattle.tables.specs.declared.Counted.the-variants as counted
+use Rattle.tables.proofs.Columns.{column-length}
+use Rattle.packets.specs.PatternPacket.{patternChecks, ReadsPattern}
+use Rattle.packets.specs.DocumentPacket.{nodesIn, packetDocument, documentRules, ReadsNodes}
+use Rattle.packets.specs.declared.PatternRead.{PatternRead}
+use Rattle.packets.proofs.Reading.{document-fronts, nodes-refused, nodes-headed, headed-few}
+use Rattle.station.specs.Patterns.{packetPattern}
+use Rattle.station.specs.Documents.{AfterRules, Asked, ReadsAsked}
+use Rattle.station.proofs.PatternCalls.{packet-valid}
+
+-- the header holds and a later check refuses by r: the refusal is that of the document, where it breaks the rules, else r
+pub after-rules : (ds : List ℕ) (rest : List Check) (r q : Refusal) → Passes (take 3 (documentRules ds)) → Refuses rest r → AfterRules (packetDocument ds) r q
+    → Refuses (documentRules ds ++ rest) q
+after-rules ds rest r q h w t =
+    ⊎-elim (λ b. inr (h .0, inr (h .1 .0, inr (h .1 .1 .0, inl (b .0, ap number (b .1))))))
+    (λ v. subst (Refuses (documentRules ds ++ rest)) (sym (v .1)) (inr (h .0, inr (h .1 .0, inr (h .1 .1 .0, inr (v .0, w))))))
+    (t .says)
+
+-- both packets, each read by itself, into lists with room for any document
+module _ (ds ps parents₀ labels₀ parents labels : List ℕ) where
+  -- what reading gives, by cases of the answer
+  abbrev Told : Pattern → Counted → Type 0
+  Told p (counted.Count n) = Asked ds ps parents₀ labels₀ n p parents labels
+  Told p (counted.Refused r) = Refuses (documentRules ds ++ patternChecks ps) r
+
+  told : (a : Counted) (p : Pattern) → Told p a → ReadsAsked ds ps parents₀ labels₀ a p parents labels
+  told a p h = record { refused = λ r e. subst (Told p) e h; read = λ n e. subst (Told p) e h }
+
+  module _ (a : Counted) (h : ReadsNodes ds parents₀ labels₀ a parents labels) where
+    -- the document's packet is refused
+    pub asked-no-nodes : 2048 ≤ length parents₀ → 2048 ≤ length labels₀ → (r : Refusal) (p : Pattern) → a ≡ counted.Refused r
+        → ReadsAsked ds ps parents₀ labels₀ (counted.Refused r) p parents labels
+    asked-no-nodes f g r p e =
+        let k = subst (λ x. ReadsNodes ds parents₀ labels₀ x parents labels) e h in
+        told (counted.Refused r) p (nodes-refused ds (length parents₀) (length labels₀) f g (drop 3 (documentRules ds) ++ patternChecks ps) r (k .0))
+
+    module _ (n : ℕ) (e : a ≡ counted.Count n) where
+      counted-nodes : ReadsNodes ds parents₀ labels₀ (counted.Count n) parents labels
+      counted-nodes = subst (λ x. ReadsNodes ds parents₀ labels₀ x parents labels) e h
+
+      header-right : Passes (take 3 (documentRules ds))
+      header-right = nodes-headed ds (length parents₀) (length labels₀) (counted-nodes .0)
+
+      pub nodes-few : n ≤ 2048
+      nodes-few = omega (arith, counted-nodes .1 .0, headed-few ds header-right)
+
+      module _ (x : PatternRead) (t : ReadsPattern ps x) where
+        pattern-told : (b : Checked) → x .answer ≡ b → Decided (patternChecks ps) b (x .pattern ≡ packetPattern ps) (x .pattern ≡ zeroPattern)
+        pattern-told b w = subst (λ b. Decided (patternChecks ps) b (x .pattern ≡ packetPattern ps) (x .pattern ≡ zeroPattern)) w t
+
+        -- the pattern's packet is refused
+        pub asked-no-pattern : (r q : Refusal) → x .answer ≡ checked.Refused r → AfterRules (record { parents = take n parents; labels = take n labels }) r q
+            → ReadsAsked ds ps parents₀ labels₀ (counted.Refused q) (x .pattern) parents labels
+        asked-no-pattern r q w v =
+            let k = counted-nodes .1 in
+            let d = document-fronts ds parents labels (drop n parents₀) (drop n labels₀) n (k .0) (k .1) (k .2) in
+            told (counted.Refused q) (x .pattern)
+            (after-rules ds (patternChecks ps) r q header-right (pattern-told (checked.Refused r) w .0) (subst (λ d. AfterRules d r q) d v))
+
+        -- both are right but for the rules
+        pub asked-both : x .answer ≡ checked.Right → ReadsAsked ds ps parents₀ labels₀ (counted.Count n) (x .pattern) parents labels
+        asked-both w =
+            let k = counted-nodes .1 in
+            let b = pattern-told checked.Right w in
+            told (counted.Count n) (x .pattern)
+            (record { header = header-right; checked = b .0; count = k .0; parents-read = k .1; labels-read = k .2; pattern-read = b .1 })
+
+-- what is known where both packets were read
+module _ {ds ps parents₀ labels₀ parents labels : List ℕ} {n : ℕ} {p : Pattern} (t : Asked ds ps parents₀ labels₀ n p parents labels) where
+  -- the fronts of the two lists are the document
+  pub asked-document : record { parents = take n parents; labels = take n labels } ≡ packetDocument ds
+  asked-document = document-fronts ds parents labels (drop n parents₀) (drop n labels₀) n (t .count) (t .parents-read) (t .labels-read)
+
+  pub asked-nodes : n ≡ nodeCount (packetDocument ds)
+  unfolding packetDocument
+  asked-nodes = t .count ∙ sym (column-length _ (nodesIn ds))
+
+  pub pattern-valid : ValidPattern (packetPattern ps)
+  pattern-valid = packet-valid ps (t .checked)
+
+  pub asked-few : n ≤ 2048
+  asked-few = omega (arith, t .count, headed-few ds (t .header))
+
+  -- with the document's rules every check of both packets holds
+  pub asked-passes : ValidDocument (packetDocument ds) → Passes (documentRules ds ++ patternChecks ps)
+  asked-passes v = let h = t .header in (h .0, (h .1 .0, (h .1 .1 .0, (v, t .checked))))
+
+  -- without them the document is refused, whatever comes after
+  pub asked-bad : (rest : List Check) (r : Refusal) → (ValidDocument (packetDocument ds) → ⊥) → number r ≡ 4 → Refuses (documentRules ds ++ rest) r
+  asked-bad rest r v e = let h = t .header in inr (h .0, inr (h .1 .0, inr (h .1 .1 .0, inl (v, e))))

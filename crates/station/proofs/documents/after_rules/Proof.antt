@@ -1,0 +1,36 @@
+-- `station::documents::after_rules` meets its contract: the answer of the check decides. Assumes nothing.
+use mathlib.Core.Path.{refl, subst}
+use mathlib.Core.Logic.{inl, inr, ⊎-elim}
+use denote.Ref.{now}
+use Rattle.tables.specs.Checks.{ChecksDocument}
+use Rattle.tables.specs.declared.Refusal.the-variants.{BadDocument}
+use Rattle.tables.proofs.Refusals.{number-unique}
+use borrow.Author.Needs.{needs}
+use Rattle.station.proofs.documents.after_rules.Statement.{statement}
+use Rattle.station.proofs.documents.after_rules.Tie as tie
+
+check-document-requires : tie.Need-check-document-requires
+check-document-requires c κs = search needs
+
+enum-told : tie.Need-enum-told
+enum-told c = search needs
+
+enum-known-q : tie.Need-enum-known-q
+enum-known-q c = search needs
+
+returns : tie.Need-returns
+returns c =
+    let a = c .before .before .before .before .before .args in
+    let v = subst (ChecksDocument (record { parents = now (a .parents); labels = now (a .labels) })) (c .enum-told .given .1) (c .before .before .check-document .ensures) in
+    record { says = inr (v .0 .0, refl) }
+
+returns-2 : tie.Need-returns-2
+returns-2 c =
+    let a = c .before .before .before .before .before .before .args in
+    let q = c .before .q .given .0 .0 in
+    let v = subst (ChecksDocument (record { parents = now (a .parents); labels = now (a .labels) })) (c .before .q .given .1) (c .before .before .before .check-document .ensures) in
+    record { says = ⊎-elim (λ w. inl (w .0, number-unique q BadDocument (w .1))) (λ w. absurd (w .1)) (v .0) }
+
+pub after-rules-spec : {M : Type 1} → statement M
+after-rules-spec =
+    tie.close (tie.spec check-document-requires enum-told enum-known-q returns returns-2)
