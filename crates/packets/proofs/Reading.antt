@@ -1,4 +1,4 @@
--- The checks of a packet, from those of its header, which both kinds of packet share, and those of its table. Assumes nothing.
+-- The checks of a packet, from those of its header, which both kinds of packet share, and those of its table; and the loop that copies a list. Assumes nothing.
 use Prim.Native.Nat.{ℕ, _+_, _*_, _/_, _≤_, _<_}
 use mathlib.Core.Path.{_≡_, refl, sym, ap, ap₂, _∙_, subst}
 use mathlib.Core.Logic.{_↔_, inl, inr, ⊎-elim}

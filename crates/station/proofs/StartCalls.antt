@@ -18,9 +18,9 @@ use Rattle.tables.specs.declared.Counted.the-variants as counted
 use Rattle.tables.proofs.Columns.{column-length}
 use Rattle.packets.specs.Bytes.{half}
 use Rattle.packets.specs.PatternPacket.{patternChecks}
-use Rattle.packets.specs.DocumentPacket.{nodesIn, packetDocument, documentRules}
+use Rattle.packets.specs.DocumentPacket.{packetDocument, documentRules}
 use Rattle.placing.specs.Answer.{In, StartList}
-use Rattle.answers.specs.Answers.{HasRoom, startedChecks, FindsStarted}
+use Rattle.answers.specs.Answers.{HasRoom, FindsStarted}
 use Rattle.station.specs.Code.{Small}
 use Rattle.station.specs.Patterns.{packetPattern}
 use Rattle.station.specs.Documents.{halfBytes, unpacked, AfterRules, Asked, ReadsAsked, roomCheck, startCheck, StartsPackets}

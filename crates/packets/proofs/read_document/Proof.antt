@@ -8,8 +8,7 @@ use denote.Ref.{now}
 use Rattle.tables.specs.Checks.{ChecksDocument}
 use Rattle.tables.specs.Document.{ValidDocument}
 use Rattle.tables.specs.Refusal.{Passes}
-use Rattle.tables.specs.declared.Counted.{Counted}
-use Rattle.tables.specs.declared.Counted.the-variants.{Count, Refused}
+use Rattle.tables.specs.declared.Counted.the-variants.{Count}
 use Rattle.packets.specs.DocumentPacket.{packetDocument, documentChecks, documentRules, ReadsNodes}
 use Rattle.packets.proofs.Reading.{document-fronts, nodes-refused, nodes-headed, headed-few, document-rules-refuse, document-room-refuses, document-passes}
 use borrow.Author.Needs.{needs}
