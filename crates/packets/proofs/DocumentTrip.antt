@@ -12,7 +12,7 @@ use Rattle.tables.specs.declared.Counted.{Counted}
 use Rattle.tables.proofs.Columns.{blocks-ext, column-length, column-at, column-ext, column-self}
 use Rattle.tables.proofs.Refusals.{counted-unique}
 use Rattle.packets.specs.Bytes.{Bytes, high, low, half}
-use Rattle.packets.specs.DocumentPacket.{nodeBytes, documentPacket, nodesIn, packetDocument, DocumentSized, documentChecks, nodeChecks, ReadsNodes, ReadsDocument}
+use Rattle.packets.specs.DocumentPacket.{nodeBytes, documentPacket, nodesIn, packetDocument, DocumentSized, documentChecks, nodeChecks, ReadsBy, ReadsNodes, ReadsDocument}
 use Rattle.packets.proofs.Halves.{half-of-bytes, high-half, low-half, packet-length, packet-half, four, packet-self}
 use Rattle.tables.proofs.Outcomes.{counted-both}
 
@@ -100,12 +100,6 @@ document-read-then-written bs h n z w =
       packet-self bs 3 n (omega (arith, z .present)),
       blocks-ext (nodeBytes (packetDocument bs)) (λ i. four (λ j. getD bs j 0) (3 + 4 * i)) n (λ i l. node-read bs h i (omega arith)),
     )
-
--- reading by a list of checks, with the rules among them or without
-abbrev ReadsBy : List Check → List ℕ → List ℕ → List ℕ → Counted → List ℕ → List ℕ → Type 0
-ReadsBy cs bs parents₀ labels₀ r parents labels =
-    CountedBy cs r (λ n. (n ≡ nodesIn bs) × (parents ≡ packetDocument bs .parents ++ drop n parents₀) × (labels ≡ packetDocument bs .labels ++ drop n labels₀))
-    ((parents ≡ parents₀) × (labels ≡ labels₀))
 
 -- whatever is checked, no second result of reading fits
 reads-by-unique : (cs : List Check) (bs parents₀ labels₀ : List ℕ) (r q : Counted) (parents parents′ labels labels′ : List ℕ)

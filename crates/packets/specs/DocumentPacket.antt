@@ -7,8 +7,9 @@
 --   documentChecks  what reading checks, in order
 --   documentRules   the same but for the room
 --   nodeChecks      the same but for the rules
---   ReadsNodes      what reading without the rules answers and leaves in the two lists
---   ReadsDocument   what reading answers and leaves in the two lists
+--   ReadsBy         what reading by given checks answers and leaves in the two lists
+--   ReadsNodes      reading without the rules
+--   ReadsDocument   reading with them
 -- Assumes nothing.
 use Prim.Native.Nat.{ℕ, _+_, _*_, _/_, _≤_}
 use mathlib.Core.Path.{_≡_}
@@ -62,16 +63,17 @@ documentRules bs = take 4 (documentChecks bs 0 0)
 abbrev pub nodeChecks : List ℕ → ℕ → ℕ → List Check
 nodeChecks bs a b = take 3 (documentChecks bs a b) ++ drop 4 (documentChecks bs a b)
 
--- reading without the rules puts the nodes at the front of both lists and counts them; a refusal leaves both lists as they were
-abbrev pub ReadsNodes : List ℕ → List ℕ → List ℕ → Counted → List ℕ → List ℕ → Type 0
-ReadsNodes bs parents₀ labels₀ r parents labels =
-    CountedBy (nodeChecks bs (length parents₀) (length labels₀)) r (λ n.
+-- the nodes stand at the front of both lists and are counted where these checks hold; a refusal leaves both lists as they were
+abbrev pub ReadsBy : List Check → List ℕ → List ℕ → List ℕ → Counted → List ℕ → List ℕ → Type 0
+ReadsBy checks bs parents₀ labels₀ r parents labels =
+    CountedBy checks r (λ n.
     (n ≡ nodesIn bs) × (parents ≡ packetDocument bs .parents ++ drop n parents₀) × (labels ≡ packetDocument bs .labels ++ drop n labels₀))
     ((parents ≡ parents₀) × (labels ≡ labels₀))
 
--- reading puts the nodes at the front of both lists and counts them; a refusal leaves both lists as they were
+-- reading without the rules
+abbrev pub ReadsNodes : List ℕ → List ℕ → List ℕ → Counted → List ℕ → List ℕ → Type 0
+ReadsNodes bs parents₀ labels₀ = ReadsBy (nodeChecks bs (length parents₀) (length labels₀)) bs parents₀ labels₀
+
+-- reading with them
 abbrev pub ReadsDocument : List ℕ → List ℕ → List ℕ → Counted → List ℕ → List ℕ → Type 0
-ReadsDocument bs parents₀ labels₀ r parents labels =
-    CountedBy (documentChecks bs (length parents₀) (length labels₀)) r (λ n.
-    (n ≡ nodesIn bs) × (parents ≡ packetDocument bs .parents ++ drop n parents₀) × (labels ≡ packetDocument bs .labels ++ drop n labels₀))
-    ((parents ≡ parents₀) × (labels ≡ labels₀))
+ReadsDocument bs parents₀ labels₀ = ReadsBy (documentChecks bs (length parents₀) (length labels₀)) bs parents₀ labels₀
