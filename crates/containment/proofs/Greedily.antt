@@ -18,7 +18,7 @@ use Rattle.placing.proofs.Fit.{Able, able-ok, able-next}
 use Rattle.placing.proofs.Least.{greedy-least}
 use Rattle.containment.specs.Mapping.{BeginsIn, LeastMap}
 use Rattle.containment.specs.Containment.{stepNo, mappingArray}
-use Rattle.containment.specs.Feasible.{FitsIn, FitTable, Picks}
+use Rattle.containment.specs.Feasible.{FitsIn, FitTable, Picks, ImageAt}
 use Rattle.containment.proofs.Deciding.{mapTask, maps-fit, fit-maps}
 use Rattle.containment.proofs.StepFits.{fits-able, able-fits}
 use Rattle.containment.proofs.Images.{pick-found, pick-some}
@@ -66,8 +66,7 @@ module _ (B A : Shape) (vb : ValidShape B) (va : ValidShape A) where
         next = λ u q j k c. absurd (omega (arith, c .late));
       }
 
-  module _ (fit : List ℕ) (table : FitTable B A fit) (k r : ℕ) (f : ℕ → ℕ) (late : 0 < k) (here : k < B .tree .size) (h : Chose B A k f)
-      (p : Picks (λ j. Goes (rowsOf A) (B .axis k) (f (B .tree .parent k)) j × (bit (getD fit j 0) k ≡ 1)) r) where
+  module _ (fit : List ℕ) (table : FitTable B A fit) (k : ℕ) (f : ℕ → ℕ) (late : 0 < k) (here : k < B .tree .size) (h : Chose B A k f) where
     abbrev q : ℕ
     q = B .tree .parent k
 
@@ -82,50 +81,55 @@ module _ (B A : Shape) (vb : ValidShape B) (va : ValidShape A) where
     sent j a = table j (able-ok (mapTask B A) a .0 .here) .put k (able-fits B A vb j k here a)
 
     -- there is an image
-    pub image-found : r < 64
-    image-found = let n = able-next (mapTask B A) (h .can q up) k hangs in pick-some p (n .0) (n .1, sent (n .0) (n .2))
+    pub image-there : (j : ℕ) × ImageAt A fit k (B .axis k) (f q) j
+    image-there = let n = able-next (mapTask B A) (h .can q up) k hangs in (n .0, (n .1, sent (n .0) (n .2)))
 
-    goes-here : (a j : ℕ) → Goes (rowsOf A) a (f q) j → j < A .tree .size
-    goes-here zero j g = g .0 .here
-    goes-here (suc a) j g = below-here g
+    -- and it is picked
+    module _ (r : ℕ) (p : Picks (ImageAt A fit k (B .axis k) (f q)) r) where
+      pub image-found : r < 64
+      image-found = pick-some p (image-there .0) (image-there .1)
 
-    right : Goes (rowsOf A) (B .axis k) (f q) r × Able (mapTask B A) k r
-    right = let w = pick-found p image-found .0 in (w .0, fits-able B A vb r k (table r (goes-here (B .axis k) r (w .0)) .only k (w .1)))
+      goes-here : (a j : ℕ) → Goes (rowsOf A) a (f q) j → j < A .tree .size
+      goes-here zero j g = g .0 .here
+      goes-here (suc a) j g = below-here g
 
-    old : (u : ℕ) → u < k → upd f k r u ≡ f u
-    old u l = upd-other f k r u (omega arith)
+      right : Goes (rowsOf A) (B .axis k) (f q) r × Able (mapTask B A) k r
+      right = let w = pick-found p image-found .0 in (w .0, fits-able B A vb r k (table r (goes-here (B .axis k) r (w .0)) .only k (w .1)))
 
-    now : upd f k r k ≡ r
-    now = upd-same f k r k refl
+      old : (u : ℕ) → u < k → upd f k r u ≡ f u
+      old u l = upd-other f k r u (omega arith)
 
-    -- its parent's image is an earlier one
-    earlier : (u o : ℕ) → u < k + 1 → Child (B .tree) o u → o < k
-    earlier u o l c = omega (arith, below-lt (shape-ordered vb) (child c))
+      now : upd f k r k ≡ r
+      now = upd-same f k r k refl
 
-    pub chose-more : Chose B A (k + 1) (upd f k r)
-    chose-more = record {
-      can = λ u l. elim (ℕ-discrete u k) [
-        | yes e ↦ subst (λ (x : ℕ). Able (mapTask B A) x (upd f k r x)) (sym e) (rw now (right .1))
-        | no n ↦ rw (old u (omega arith)) (h .can u (omega arith))
-      ];
-      first = rw (old 0 late) (h .first);
-      least = rw (old 0 late) (h .least);
-      edge = λ u o l c. elim (ℕ-discrete u k) [
-        | yes e ↦
-            let z : q ≡ o = ap (B .tree .parent) (sym e) ∙ c .up in
-            subst (λ (x : ℕ). Goes (rowsOf A) (B .axis x) (upd f k r o) (upd f k r x)) (sym e)
-            (subst (λ (y : ℕ). Goes (rowsOf A) (B .axis k) (upd f k r y) (upd f k r k)) z (rw (old q up, now) (right .0)))
-        | no n ↦ rw (old u (omega arith), old o (earlier u o l c)) (h .edge u o (omega arith) c)
-      ];
-      next = λ u o j l c g a. elim (ℕ-discrete u k) [
-        | yes e ↦
-            let z : o ≡ q = sym (c .up) ∙ ap (B .tree .parent) e in
-            let g′ : Goes (rowsOf A) (B .axis k) (f q) j
-            = subst₂ (λ (x : ℕ) (y : ℕ). Goes (rowsOf A) (B .axis x) (f y) j) e z (subst (λ (y : ℕ). Goes (rowsOf A) (B .axis u) y j) (old o (earlier u o l c)) g) in
-            omega (arith, pick-found p image-found .1 j (g′, sent j (subst (λ (x : ℕ). Able (mapTask B A) x j) e a)), ap (upd f k r) e, now)
-        | no n ↦ omega (arith, h .next u o j (omega arith) c (subst (λ (y : ℕ). Goes (rowsOf A) (B .axis u) y j) (old o (earlier u o l c)) g) a, old u (omega arith))
-      ];
-    }
+      -- its parent's image is an earlier one
+      earlier : (u o : ℕ) → u < k + 1 → Child (B .tree) o u → o < k
+      earlier u o l c = omega (arith, below-lt (shape-ordered vb) (child c))
+
+      pub chose-more : Chose B A (k + 1) (upd f k r)
+      chose-more = record {
+        can = λ u l. elim (ℕ-discrete u k) [
+          | yes e ↦ subst (λ (x : ℕ). Able (mapTask B A) x (upd f k r x)) (sym e) (rw now (right .1))
+          | no n ↦ rw (old u (omega arith)) (h .can u (omega arith))
+        ];
+        first = rw (old 0 late) (h .first);
+        least = rw (old 0 late) (h .least);
+        edge = λ u o l c. elim (ℕ-discrete u k) [
+          | yes e ↦
+              let z : q ≡ o = ap (B .tree .parent) (sym e) ∙ c .up in
+              subst (λ (x : ℕ). Goes (rowsOf A) (B .axis x) (upd f k r o) (upd f k r x)) (sym e)
+              (subst (λ (y : ℕ). Goes (rowsOf A) (B .axis k) (upd f k r y) (upd f k r k)) z (rw (old q up, now) (right .0)))
+          | no n ↦ rw (old u (omega arith), old o (earlier u o l c)) (h .edge u o (omega arith) c)
+        ];
+        next = λ u o j l c g a. elim (ℕ-discrete u k) [
+          | yes e ↦
+              let z : o ≡ q = sym (c .up) ∙ ap (B .tree .parent) e in
+              let g′ : Goes (rowsOf A) (B .axis k) (f q) j
+              = subst₂ (λ (x : ℕ) (y : ℕ). Goes (rowsOf A) (B .axis x) (f y) j) e z (subst (λ (y : ℕ). Goes (rowsOf A) (B .axis u) y j) (old o (earlier u o l c)) g) in
+              omega (arith, pick-found p image-found .1 j (g′, sent j (subst (λ (x : ℕ). Able (mapTask B A) x j) e a)), ap (upd f k r) e, now)
+          | no n ↦ omega (arith, h .next u o j (omega arith) c (subst (λ (y : ℕ). Goes (rowsOf A) (B .axis u) y j) (old o (earlier u o l c)) g) a, old u (omega arith))
+        ];
+      }
 
   -- all steps
   pub chose-end : (f : ℕ → ℕ) → Chose B A (B .tree .size) f → LeastMap B A f

@@ -1,20 +1,19 @@
 -- The search for the smallest step of A that may take a step of B. Assumes nothing.
 use Prim.Native.Nat.{ℕ, zero, suc, _+_, _≤_, _<_}
-use mathlib.Core.Path.{_≡_, refl, sym, subst}
-use mathlib.Core.Logic.{_⊎_, inl, inr, ⊎-elim}
+use mathlib.Core.Path.{_≡_, refl, subst}
+use mathlib.Core.Logic.{inr, ⊎-elim}
 use mathlib.Core.List.{List}
 use native.Mathlib.Omega.{arith}
-use native.Mathlib.Nat.{eq-or-lt-of-le}
 use native.Mathlib.Decide.{decLt, ℕ-discrete}
 use lib.ListN.{getD}
 use Rattle.tables.specs.Bits.{bit}
-use Rattle.tables.specs.Tree.{Child, Below, child}
+use Rattle.tables.specs.Tree.{Below, child}
 use Rattle.tables.specs.Pattern.{Shape, rowsOf, ValidShape}
 use Rattle.tables.proofs.Rules.{shape-ordered}
-use Rattle.tables.proofs.Trees.{parent-lt, below-lt, below-up, below-here, from-child, from-le}
+use Rattle.tables.proofs.Trees.{below-lt, below-up, below-here}
 use Rattle.tables.proofs.Depth.{run}
 use Rattle.placing.specs.Placement.{Goes}
-use Rattle.containment.specs.Feasible.{Picks, picked, nothing}
+use Rattle.containment.specs.Feasible.{Picks, picked, nothing, ImageAt}
 
 module _ {X : ℕ → Type 0} where
   -- what is found is the smallest, where nothing before it is right
@@ -47,20 +46,14 @@ module _ {X : ℕ → Type 0} where
   pick-to f g (nothing e h) = nothing e (λ j y. h j (g j y))
 
 module _ (A : Shape) (fit : List ℕ) (t axis q : ℕ) where
-  -- step j may take step t
-  abbrev pub Takes : ℕ → Type 0
-  Takes j = Goes (rowsOf A) axis q j × (bit (getD fit j 0) t ≡ 1)
-
   -- the same of a step that is below q
   abbrev pub Fits : ℕ → Type 0
   Fits j = (axis ≡ 0 → (A .tree .parent j ≡ q) × (A .axis j ≡ 0)) × (bit (getD fit j 0) t ≡ 1)
 
-  -- the steps after q and before s are below q, and none of them may take step t
+  -- none of the steps after q and before s may take step t
   pub record Sought (s : ℕ) : Type 0 where
     pub after : q < s
-    pub within : s ≤ A .tree .size
-    pub below : (j : ℕ) → q < j → j < s → Below (A .tree) q j
-    pub none : (j : ℕ) → q < j → j < s → Takes j → ⊥
+    pub none : (j : ℕ) → q < j → j < s → ImageAt A fit t axis q j → ⊥
 
   -- a step of this axis goes below q
   goes-below : (a j : ℕ) → Goes (rowsOf A) a q j → Below (A .tree) q j
@@ -75,43 +68,33 @@ module _ (A : Shape) (fit : List ℕ) (t axis q : ℕ) where
   out-of zero j g e = (g .0 .up, g .1)
   out-of (suc a) j g e = absurd (omega arith)
 
-  pub sought-start : q < A .tree .size → Sought (q + 1)
-  sought-start l = record { after = omega arith; within = omega arith; below = λ j h k. absurd (omega arith); none = λ j h k. absurd (omega arith) }
+  pub sought-start : Sought (q + 1)
+  sought-start = record { after = omega arith; none = λ j h k. absurd (omega arith) }
+
+  pub sought-more : (s : ℕ) → Sought s → (Fits s → ⊥) → Sought (s + 1)
+  sought-more s u n = record {
+    after = omega (arith, u .after);
+    none = λ j a b x. elim (ℕ-discrete j s) [
+      | yes e ↦ n (subst Fits e (out-of axis j (x .0), x .1))
+      | no d ↦ u .none j a (omega arith) x
+    ];
+  }
 
   module _ (va : ValidShape A) (s : ℕ) (u : Sought s) where
-    before : (j : ℕ) → j < s → Takes j → ⊥
+    before : (j : ℕ) → j < s → ImageAt A fit t axis q j → ⊥
     before j l x = u .none j (below-lt (shape-ordered va) (goes-below axis j (x .0))) l x
 
-    module _ (l : s < A .tree .size) where
-      -- a step of the run hangs on q or on a step of the run
-      in-run : q ≤ A .tree .parent s → Below (A .tree) q s
-      in-run h =
-          let p : A .tree .parent s < s = parent-lt (shape-ordered va) s (omega (arith, u .after)) l in
-          let c : Child (A .tree) (A .tree .parent s) s = record { late = omega (arith, u .after); here = l; up = refl } in
-          from-child (⊎-elim (λ e. inl e) (λ d. inr (u .below (A .tree .parent s) d p)) (eq-or-lt-of-le h)) c
+    -- where some step may take step t, it is not before s, and s is in the run after q
+    in-run : (j : ℕ) → ImageAt A fit t axis q j → Below (A .tree) q s
+    in-run j x = elim (decLt j s) [
+      | yes l ↦ absurd (before j l x)
+      | no l ↦ ⊎-elim (λ e. absurd (omega (arith, u .after, e))) (λ b. b)
+          (run (shape-ordered va) q j s (inr (goes-below axis j (x .0))) (omega (arith, u .after)) (omega arith))
+    ]
 
-      pub sought-here : q ≤ A .tree .parent s → Fits s → Picks Takes s
-      sought-here h f = pick-here s (omega (arith, va .few)) (into axis s (in-run h) (f .0), f .1) before
+    pub sought-here : (j : ℕ) × ImageAt A fit t axis q j → s < A .tree .size → Fits s → Picks (ImageAt A fit t axis q) s
+    sought-here w l f = pick-here s (omega (arith, va .few)) (into axis s (in-run (w .0) (w .1)) (f .0), f .1) before
 
-      pub sought-more : q ≤ A .tree .parent s → (Fits s → ⊥) → Sought (s + 1)
-      sought-more h n = record {
-        after = omega (arith, u .after);
-        within = omega arith;
-        below = λ j a b. elim (ℕ-discrete j s) [ yes e ↦ subst (Below (A .tree) q) (sym e) (in-run h) | no d ↦ u .below j a (omega arith) ];
-        none = λ j a b x. elim (ℕ-discrete j s) [
-          | yes e ↦ n (subst Fits e (out-of axis j (x .0), x .1))
-          | no d ↦ u .none j a (omega arith) x
-        ];
-      }
-
-      -- past the run there is none
-      pub sought-past : A .tree .parent s < q → Picks Takes 64
-      sought-past h = nothing refl (λ j x. elim (decLt j s) [
-        | yes k ↦ before j k x
-        | no k ↦ ⊎-elim (λ e. omega (arith, u .after)) (λ b. omega (arith, from-le (shape-ordered va) q (A .tree .parent s) (below-up b .1)))
-            (run (shape-ordered va) q j s (inr (goes-below axis j (x .0))) (omega (arith, u .after)) (omega arith))
-      ])
-
-    -- nor past the last step
-    pub sought-end : A .tree .size ≤ s → Picks Takes 64
+    -- there is none past the last step
+    pub sought-end : A .tree .size ≤ s → Picks (ImageAt A fit t axis q) 64
     sought-end h = nothing refl (λ j x. before j (omega (arith, below-here (goes-below axis j (x .0)))) x)

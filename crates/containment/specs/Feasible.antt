@@ -7,6 +7,8 @@
 --   FitsIn     a step of B that fits at a step of A
 --   FitTable   a table of the steps of B that fit at each step of A
 --   Picks      the smallest number of a kind
+--   Listed     a pattern's parents and axes as lists
+--   ImageAt    a step that may take another, by a table
 --   Chosen     the smallest mapping as an array
 --   Wrote      the nodes of one step of a witness
 -- Assumes nothing.
@@ -19,8 +21,8 @@ use lib.Dec.{T}
 use lib.ListN.{getD, set}
 use Rattle.tables.specs.Bits.{bit, Marks}
 use Rattle.tables.specs.Tree.{Child, From}
-use Rattle.tables.specs.Pattern.{Shape, rowsOf}
-use Rattle.placing.specs.Placement.{SendsFrom}
+use Rattle.tables.specs.Pattern.{Shape, rowsOf, ValidShape}
+use Rattle.placing.specs.Placement.{Goes, SendsFrom}
 use Rattle.tables.specs.declared.StepNo.{StepNo}
 use Rattle.containment.specs.Mapping.{LeastMap}
 use Rattle.containment.specs.Containment.{mappingArray}
@@ -64,6 +66,17 @@ FitTable B A table = (s : ℕ) → s < A .tree .size → Marks (getD table s 0) 
 pub data Picks (X : ℕ → Type 0) (r : ℕ) : Type 0 where
   picked : r < 64 → X r → ((j : ℕ) → X j → r ≤ j) → Picks X r
   nothing : r ≡ 64 → ((j : ℕ) → X j → ⊥) → Picks X r
+
+-- A, which obeys the rules, has n steps, with these parents and axes
+pub record Listed (A : Shape) (parents axes : List ℕ) (n : ℕ) : Type 0 where
+  pub valid : ValidShape A
+  pub count : A .tree .size ≡ n
+  pub parent : (j : ℕ) → A .tree .parent j ≡ getD parents j 0
+  pub axis : (j : ℕ) → A .axis j ≡ getD axes j 0
+
+-- step j of A may take step t, of this axis, by the table, where the parent of t is at step q
+abbrev pub ImageAt : Shape → List ℕ → ℕ → ℕ → ℕ → ℕ → Type 0
+ImageAt A fit t axis q j = Goes (rowsOf A) axis q j × (bit (getD fit j 0) t ≡ 1)
 
 -- the array holds the smallest mapping of B into A
 pub record Chosen (B A : Shape) (mapping : List StepNo) : Type 0 where

@@ -5,9 +5,8 @@ ghost use Prim.Native.Nat.{ℕ, _≤_, _<_};
 ghost use lib.Dec.{T};
 ghost use lib.ListN.{getD};
 ghost use Rattle.tables.specs.Bits.{bit};
-ghost use Rattle.tables.specs.Pattern.{shapeOf, rowsOf, ValidPattern};
-ghost use Rattle.placing.specs.Placement.{Goes};
-ghost use Rattle.containment.specs.Feasible.{FitsIn, FitTable, Picks, Chosen};
+ghost use Rattle.tables.specs.Pattern.{Shape, shapeOf, ValidPattern};
+ghost use Rattle.containment.specs.Feasible.{FitsIn, FitTable, Picks, Listed, ImageAt, Chosen};
 ghost use Rattle.containment.specs.Mapping.{BeginsIn};
 use crate::fitting;
 use tables::Pattern;
@@ -43,35 +42,42 @@ pub(crate) fn first_image(n: usize, own: u8, axis: u8, fit: &[u64; 64]) -> usize
     64
 }
 
-// May a step that goes to step s of a, below q, be a step of this axis, where s hangs on p along an edge of axis `own`? And does it fit there?
+// May a step that goes to step s, below q, be a step of this axis, where s hangs on p along an edge of axis `own`? And does it fit there?
 fn takes(x: u64, t: usize, axis: u8, q: usize, p: usize, own: u8) -> bool
     requires { ⌜ t < 64 ⌝ }
     ensures { λ r. ⌜ T r ↔ ((axis ≡ 0 → (p ≡ q) × (own ≡ 0)) × (bit x t ≡ 1)) ⌝ }
 {
-    if axis == 0 {
-        if p != q {
-            return false;
-        }
-        if own != 0 {
-            return false;
-        }
+    if !fitting::has_bit(x, t) {
+        return false;
     }
-    fitting::has_bit(x, t)
+    if axis != 0 {
+        return true;
+    }
+    if p != q {
+        return false;
+    }
+    own == 0
 }
 
-// The smallest step of a that may take step t, of this axis, where its parent step is at q; 64 where there is none. What is below q stands in one run after q.
-fn next_image(a: Pattern, fit: &[u64; 64], t: usize, axis: u8, q: usize) -> usize
-    requires { ⌜ ValidPattern a × (t < 64) × (q < a .count) ⌝ }
-    ensures { λ r. ⌜ Picks (λ j. Goes (rowsOf (shapeOf a)) axis q j × (bit (getD (now (fit .entry)) j 0) t ≡ 1)) r ⌝ }
+// The smallest of n steps that may take step t, of this axis, where its parent step is at q; 64 where there is none. The steps hang by `parents` and `axes`. What is
+// below q stands in one run after q: where any step of it may take t, the first after q that fits is not past the run.
+fn next_image(
+    parents: &[u8; 64],
+    axes: &[u8; 64],
+    n: usize,
+    fit: &[u64; 64],
+    t: usize,
+    axis: u8,
+    q: usize,
+) -> usize
+    requires { ⌜ (n ≤ 64) × (t < 64) × (q < n) ⌝ }
+    requires { ⌜ ((j : ℕ) → 0 < j → j < n → getD (now parents) j 0 < 64) ⌝ }
+    ensures { λ r. ⌜ ((A : Shape) → Listed A (now (parents .entry)) (now (axes .entry)) n → ((j : ℕ) × ImageAt A (now (fit .entry)) t axis q j) → Picks (ImageAt A (now (fit .entry)) t axis q) r) ⌝ }
 {
-    let n = a.count;
     let mut s = q + 1;
     while s < n {
-        let p = a.parent[s] as usize;
-        if p < q {
-            return 64;
-        }
-        if takes(fit[s], t, axis, q, p, a.axis[s]) {
+        let p = parents[s] as usize;
+        if takes(fit[s], t, axis, q, p, axes[s]) {
             return s;
         }
         s += 1;
@@ -86,6 +92,8 @@ pub(crate) fn choose(a: Pattern, b: Pattern, fit: &[u64; 64], first: usize) -> [
     requires { ⌜ Picks (λ j. BeginsIn (shapeOf b) (shapeOf a) j × FitsIn (shapeOf b) (shapeOf a) j 0) first × (first < 64) ⌝ }
     ensures { λ r. ⌜ Chosen (shapeOf b) (shapeOf a) r ⌝ }
 {
+    let parents = a.parent;
+    let axes = a.axis;
     let mut mapping = [StepNo(0); 64];
     mapping[0] = StepNo(first as u8);
     let n = b.count;
@@ -93,7 +101,7 @@ pub(crate) fn choose(a: Pattern, b: Pattern, fit: &[u64; 64], first: usize) -> [
     while t < n {
         let o = b.parent[t] as usize;
         let q = mapping[o].0 as usize;
-        let s = next_image(a, fit, t, b.axis[t], q);
+        let s = next_image(&parents, &axes, a.count, fit, t, b.axis[t], q);
         mapping[t] = StepNo(s as u8);
         t += 1;
     }

@@ -1,94 +1,100 @@
 -- `containment::choosing::choose` meets its contract: the steps before t have their images in the array. Assumes nothing.
 use Prim.Native.Nat.{ℕ, _-_, _≤_, _<_}
-use mathlib.Core.Path.{_≡_, ap}
+use mathlib.Core.Path.{_≡_, refl, ap}
 use native.Mathlib.Omega.{arith}
 use borrow.Author.Needs.{needs}
 use lib.ListN.{getD}
 use denote.Ref.{now}
-use Rattle.tables.specs.Bits.{bit}
-use Rattle.tables.specs.Pattern.{shapeOf, rowsOf}
+use Rattle.tables.specs.Pattern.{shapeOf}
 use Rattle.tables.specs.declared.StepNo.{StepNo}
 use Rattle.tables.proofs.Choice.{upd}
+use Rattle.tables.proofs.Gathered.{parent-few}
 use Rattle.tables.proofs.Rules.{shape-ordered}
 use Rattle.tables.proofs.Trees.{parent-lt}
-use Rattle.placing.specs.Placement.{Goes}
 use Rattle.placing.proofs.Fit.{able-ok}
-use Rattle.containment.specs.Feasible.{Picks}
+use Rattle.containment.specs.Feasible.{Picks, Listed, ImageAt}
 use Rattle.containment.specs.Containment.{stepNo, mappingArray}
 use Rattle.containment.proofs.Deciding.{mapTask}
-use Rattle.containment.proofs.Greedily.{mapping-one, mapping-more, mapping-at, Chose, chose-start, chose-more, image-found, chose-end}
+use Rattle.containment.proofs.Greedily.{mapping-one, mapping-more, mapping-at, Chose, chose-start, chose-more, image-there, image-found, chose-end}
 use Rattle.containment.proofs.choosing.choose.Statement.{statement}
 use Rattle.containment.proofs.choosing.choose.Tie as tie
 
 abbrev Inv-loop : tie.InvT-loop
-Inv-loop a fit first b mapping₀ n t₀ mapping t = (0 < t) × (t ≤ n) × ((f : ℕ → ℕ) × (mapping ≡ mappingArray f t) × Chose (shapeOf b) (shapeOf a) t f)
+Inv-loop a fit first b parents axes mapping₀ n t₀ mapping t =
+    (0 < t) × (t ≤ n) × ((f : ℕ → ℕ) × (mapping ≡ mappingArray f t) × Chose (shapeOf b) (shapeOf a) t f)
 
 abbrev μ-loop : tie.MeasureT-loop
-μ-loop a fit first b mapping₀ n t₀ mapping t = n - t
+μ-loop a fit first b parents axes mapping₀ n t₀ mapping t = n - t
 
-cast-t13 : tie.Need-cast-t13 Inv-loop μ-loop
-cast-t13 c = search needs
+cast-t15 : tie.Need-cast-t15 Inv-loop μ-loop
+cast-t15 c = search needs
 
 array-set-from-mapping : tie.Need-array-set-from-mapping Inv-loop μ-loop
 array-set-from-mapping c = search needs
 
 loop-holds : tie.Need-loop-holds Inv-loop μ-loop
 loop-holds c =
-    let v = c .pre .0 in
-    let g = c .pre .1 .1 in
-    (omega arith, omega (arith, v .1 .some), (λ u. c .args .first, mapping-one (c .args .first), chose-start _ _ (v .1) (v .0) (c .args .first) (g .1) (g .0)))
+    let s = c .before .before in
+    let v = s .pre .0 in
+    let g = s .pre .1 .1 in
+    (omega arith, omega (arith, v .1 .some), (λ u. s .args .first, mapping-one (s .args .first), chose-start _ _ (v .1) (v .0) (s .args .first) (g .1) (g .0)))
 
 element-copy-out-o : tie.Need-element-copy-out-o Inv-loop μ-loop
 element-copy-out-o c = omega arith
 
 -- the parent step, its image, and that the image is a step of a
-up : (c : tie.In-loop Inv-loop μ-loop) → getD (c .before .before .args .t2 .parent) (c .before .loop .t) 0 < c .before .loop .t
-up c = parent-lt (shape-ordered (c .before .before .pre .0 .1)) (c .before .loop .t) (c .before .loop .inv .0) (c .loop-test .taken)
+up : (c : tie.In-loop Inv-loop μ-loop) → getD (c .before .before .before .before .args .t2 .parent) (c .before .loop .t) 0 < c .before .loop .t
+up c = parent-lt (shape-ordered (c .before .before .before .before .pre .0 .1)) (c .before .loop .t) (c .before .loop .inv .0) (c .loop-test .taken)
 
 image : (c : tie.In-loop Inv-loop μ-loop)
-    → getD (c .before .loop .mapping) (getD (c .before .before .args .t2 .parent) (c .before .loop .t) 0) (stepNo 0) .0 ≡ c .before .loop .inv .2 .0 (getD (c .before .before .args .t2 .parent) (c .before .loop .t) 0)
+    → getD (c .before .loop .mapping) (getD (c .before .before .before .before .args .t2 .parent) (c .before .loop .t) 0) (stepNo 0) .0 ≡ c .before .loop .inv .2 .0 (getD (c .before .before .before .before .args .t2 .parent) (c .before .loop .t) 0)
 image c = let i = c .before .loop .inv .2 in ap (λ (x : StepNo). x .0) (rw (i .1) (mapping-at (i .0) (c .before .loop .t) _ (up c)))
 
 small : (c : tie.In-loop Inv-loop μ-loop)
-    → getD (c .before .loop .mapping) (getD (c .before .before .args .t2 .parent) (c .before .loop .t) 0) (stepNo 0) .0 < c .before .before .args .a .count
-small c = rw (image c) (able-ok (mapTask (shapeOf (c .before .before .args .t2)) (shapeOf (c .before .before .args .a))) (c .before .loop .inv .2 .2 .can _ (up c)) .0 .here)
+    → getD (c .before .loop .mapping) (getD (c .before .before .before .before .args .t2 .parent) (c .before .loop .t) 0) (stepNo 0) .0 < c .before .before .before .before .args .a .count
+small c = rw (image c) (able-ok (mapTask (shapeOf (c .before .before .before .before .args .t2)) (shapeOf (c .before .before .before .before .args .a))) (c .before .loop .inv .2 .2 .can _ (up c)) .0 .here)
 
 cast-o : tie.Need-cast-o Inv-loop μ-loop
 cast-o c = search needs
 
 element-copy-out-q : tie.Need-element-copy-out-q Inv-loop μ-loop
-element-copy-out-q c = omega (arith, up (c .before), c .before .before .before .pre .0 .1 .few)
+element-copy-out-q c = omega (arith, up (c .before), c .before .before .before .before .before .pre .0 .1 .few)
 
 cast-q : tie.Need-cast-q Inv-loop μ-loop
-cast-q c = record { fits = omega (arith, small (c .before), c .before .before .before .pre .0 .0 .few) }
+cast-q c = record { fits = omega (arith, small (c .before), c .before .before .before .before .before .pre .0 .0 .few) }
 
 element-copy-out-next-image : tie.Need-element-copy-out-next-image Inv-loop μ-loop
 element-copy-out-next-image c = omega arith
 
 next-image-requires : tie.Need-next-image-requires Inv-loop μ-loop
 next-image-requires c κs =
-    let v = c .before .before .before .before .pre .0 in
-    (v .0, omega (arith, v .1 .few), small (c .before .before))
+    let v = c .before .before .before .before .before .before .before .before .pre .0 in
+    ((v .0 .few, omega (arith, v .1 .few), small (c .before .before .before .before)), parent-few (shapeOf (c .before .before .before .before .before .before .before .before .args .a)) (v .0))
 
 -- what was picked, and that something was
 picks : (c : tie.After-next-image Inv-loop μ-loop)
-    → let m = c .before .before .before .before in
-    let b = shapeOf (m .before .args .t2) in
-    Picks (λ j. Goes (rowsOf (shapeOf (m .before .args .a))) (b .axis (m .loop .t)) (m .loop .inv .2 .0 (b .tree .parent (m .loop .t))) j × (bit (getD (now (m .before .args .fit)) j 0) (m .loop .t) ≡ 1)) (c .next-image .result)
-picks c = rw (image (c .before .before .before)) at (c .next-image .ensures)
+    → let m = c .before .before .before .before .before .before in
+    let b = shapeOf (m .before .before .before .args .t2) in
+    Picks (ImageAt (shapeOf (m .before .before .before .args .a)) (now (m .before .before .before .args .fit)) (m .loop .t) (b .axis (m .loop .t)) (m .loop .inv .2 .0 (b .tree .parent (m .loop .t)))) (c .next-image .result)
+picks c =
+    let m = c .before .before .before .before .before .before in
+    let s = m .before .before .before in
+    let i = m .loop .inv .2 in
+    (rw (image (c .before .before .before .before .before)) at (c .next-image .ensures)) (shapeOf (s .args .a)) (record { valid = s .pre .0 .0; count = refl; parent = λ j. refl; axis = λ j. refl })
+    (image-there _ _ (s .pre .0 .1) (s .pre .0 .0) (now (s .args .fit)) (s .pre .1 .0) (m .loop .t) (i .0) (m .loop .inv .0) (omega arith) (i .2))
 
 found : (c : tie.After-next-image Inv-loop μ-loop) → c .next-image .result < 64
 found c =
-    let m = c .before .before .before .before in
-    let s = m .before in
+    let m = c .before .before .before .before .before .before in
+    let s = m .before .before .before in
     let i = m .loop .inv .2 in
-    image-found _ _ (s .pre .0 .1) (s .pre .0 .0) (now (s .args .fit)) (s .pre .1 .0) (m .loop .t) (c .next-image .result) (i .0) (m .loop .inv .0) (omega arith) (i .2) (picks c)
+    image-found _ _ (s .pre .0 .1) (s .pre .0 .0) (now (s .args .fit)) (s .pre .1 .0) (m .loop .t) (i .0) (m .loop .inv .0) (omega arith) (i .2) (c .next-image .result) (picks c)
 
-cast-t19 : tie.Need-cast-t19 Inv-loop μ-loop
-cast-t19 c = record { fits = omega (arith, found c) }
+cast-t21 : tie.Need-cast-t21 Inv-loop μ-loop
+cast-t21 c = record { fits = omega (arith, found c) }
 
 array-set-from-mapping-2 : tie.Need-array-set-from-mapping-2 Inv-loop μ-loop
-array-set-from-mapping-2 c = omega (arith, c .before .before .before .before .before .pre .0 .1 .few)
+array-set-from-mapping-2 c = omega (arith, c .before .before .before .before .before .before .before .before .before .pre .0 .1 .few)
 
 add-t : tie.Need-add-t Inv-loop μ-loop
 add-t c = omega arith
@@ -98,22 +104,22 @@ loop-less c = omega arith
 
 loop-again : tie.Need-loop-again Inv-loop μ-loop
 loop-again c =
-    let m = c .before .before .before .before in
-    let s = m .before in
+    let m = c .before .before .before .before .before .before in
+    let s = m .before .before .before in
     let i = m .loop .inv .2 in (
       omega arith,
       omega arith,
       (
         upd (i .0) (m .loop .t) (c .next-image .result),
         rw (i .1) (mapping-more (i .0) (m .loop .t) _ (omega (arith, s .pre .0 .1 .few))),
-        chose-more _ _ (s .pre .0 .1) (s .pre .0 .0) (now (s .args .fit)) (s .pre .1 .0) (m .loop .t) (c .next-image .result) (i .0) (m .loop .inv .0) (omega arith) (i .2) (picks c),
+        chose-more _ _ (s .pre .0 .1) (s .pre .0 .0) (now (s .args .fit)) (s .pre .1 .0) (m .loop .t) (i .0) (m .loop .inv .0) (omega arith) (i .2) (c .next-image .result) (picks c),
       ),
     )
 
 returns : tie.Need-returns Inv-loop μ-loop
 returns c =
     let m = c .before in
-    let s = m .before in
+    let s = m .before .before .before in
     let e : m .loop .t ≡ s .args .t2 .count = omega arith in
     let i = m .loop .inv .2 in
     record { by = i .0; least = chose-end _ _ (s .pre .0 .1) (s .pre .0 .0) (i .0) (rw e at (i .2)); array = rw e at (i .1) }
@@ -124,7 +130,7 @@ choose-spec =
     (tie.spec
     Inv-loop
     μ-loop
-    cast-t13
+    cast-t15
     array-set-from-mapping
     loop-holds
     element-copy-out-o
@@ -133,7 +139,7 @@ choose-spec =
     cast-q
     element-copy-out-next-image
     next-image-requires
-    cast-t19
+    cast-t21
     array-set-from-mapping-2
     add-t
     loop-less
