@@ -1,5 +1,5 @@
 -- The witness as the code writes it, one step after another. Assumes nothing.
-use Prim.Native.Nat.{ℕ, suc, _+_, _-_, _≤_, _<_}
+use Prim.Native.Nat.{ℕ, zero, suc, _+_, _-_, _≤_, _<_}
 use mathlib.Core.Path.{_≡_, refl, sym, _∙_}
 use mathlib.Core.Logic.{_⊎_, inl, inr}
 use mathlib.Core.List.{List, [], _∷_, _++_, append-assoc}
@@ -11,6 +11,8 @@ use lib.ListN.{length, getD, drop, set, length-append, length-drop}
 use Rattle.tables.specs.Column.{blocks}
 use Rattle.tables.specs.Pattern.{Shape, ValidShape}
 use Rattle.tables.proofs.Columns.{put-next}
+use Rattle.tables.proofs.Rules.{shape-ordered}
+use Rattle.tables.proofs.Trees.{parent-lt}
 use Rattle.containment.specs.Witness.{descendants, ownNode, witnessSize, hook, parentsFor, labelsFor}
 use Rattle.containment.specs.Feasible.{Wrote}
 use Rattle.containment.proofs.Nodes.{descendants-le, descendants-mono}
@@ -42,6 +44,13 @@ nodes-more A s r nodes l e old =
     below-more (λ (k : ℕ). getD (set nodes s (r - 1)) k 0 ≡ ownNode A k) s
     (λ k g. getD-set-other nodes s k (r - 1) 0 (omega arith) ∙ old k g)
     (getD-set-same nodes s (r - 1) 0 l ∙ rw (← add-one s) (omega (arith, e)))
+
+-- the hook of a step, by the nodes of the steps before it
+pub hook-is : (A : Shape) → ValidShape A → (s r : ℕ) (nodes : List ℕ) → s < A .tree .size → NodesTo A s nodes → (s ≡ 0 → r ≡ 65535)
+    → (0 < s → r ≡ getD nodes (A .tree .parent s) 0) → r ≡ hook A s
+unfolding hook
+hook-is A v zero r nodes h n f g = f refl
+hook-is A v (suc s) r nodes h n f g = g (omega arith) ∙ n (A .tree .parent (suc s)) (parent-lt (shape-ordered v) (suc s) (omega arith) h)
 
 pub front-none : (A : Shape) (l : ℕ) (parents₀ labels₀ : List ℕ) → Front A l 0 0 parents₀ labels₀ parents₀ labels₀
 unfolding blocks descendants

@@ -1,10 +1,10 @@
 // The witness document of a pattern, written into two lists (docs/RULES.md, "Containment").
 ghost use mathlib.Core.Path.{_≡_};
 ghost use mathlib.Core.List.{_++_};
-ghost use Prim.Native.Nat.{ℕ, _+_, _≤_, _<_};
+ghost use Prim.Native.Nat.{_+_, _≤_, _<_};
 ghost use lib.ListN.{length, getD, drop};
 ghost use Rattle.tables.specs.Pattern.{shapeOf, ValidPattern};
-ghost use Rattle.containment.specs.Witness.{descendants, ownNode, witnessSize, hook, witnessOf};
+ghost use Rattle.containment.specs.Witness.{descendants, ownNode, witnessSize, witnessOf};
 ghost use Rattle.containment.specs.Feasible.{Wrote};
 use tables::Pattern;
 
@@ -30,17 +30,15 @@ pub(crate) fn own_node(a: Pattern, s: usize) -> usize
     s + descendants_before(a, s + 1)
 }
 
-// The parent of the first node written for step s, where `nodes` has the nodes of the steps before s.
-fn hook_of(a: Pattern, nodes: &[u16; 64], s: usize) -> u16
-    requires { ⌜ ValidPattern a × (s < a .count) ⌝ }
-    requires { ⌜ ((k : ℕ) → k < s → getD (now nodes) k 0 ≡ ownNode (shapeOf a) k) ⌝ }
-    ensures { λ r. ⌜ r ≡ hook (shapeOf a) s ⌝ }
+// The parent of the first node written for step s, which hangs on step p, where `nodes` has the nodes of the steps before s.
+fn hook_of(nodes: &[u16; 64], p: u8, s: usize) -> u16
+    requires { ⌜ (0 < s → p < 64) ⌝ }
+    ensures { λ r. ⌜ (s ≡ 0 → r ≡ 65535) × (0 < s → r ≡ getD (now (nodes .entry)) p 0) ⌝ }
 {
     if s == 0 {
         return 65535;
     }
-    let p = a.parent[s] as usize;
-    nodes[p]
+    nodes[p as usize]
 }
 
 // The nodes of one step from place m on: a fresh node of label l first, where the axis is descendant, then the step's own. The place after them.
@@ -79,7 +77,7 @@ pub(crate) fn write_witness(a: Pattern, l: u16, parents: &mut [u16], labels: &mu
     let mut m = 0;
     let mut s = 0;
     while s < n {
-        let hook = hook_of(a, &nodes, s);
+        let hook = hook_of(&nodes, a.parent[s], s);
         m = write_step(a.axis[s], hook, a.label[s], l, m, parents, labels);
         nodes[s] = (m - 1) as u16;
         s += 1;
