@@ -8,9 +8,9 @@ use Rattle.tables.specs.Refusal.{Passes, Refuses}
 use Rattle.tables.specs.declared.Pattern.{Pattern}
 use Rattle.tables.specs.declared.Refusal.{Refusal}
 use Rattle.tables.specs.declared.Refusal.the-variants.{NoLabel, Room}
+use Rattle.containment.specs.Equality.{pairChecks}
 use Rattle.containment.specs.Witness.{Fresh, witnessSize}
 use Rattle.containment.specs.Containment.{containmentChecks}
-use Rattle.containment.specs.Verdict.{verdictChecks}
 use Rattle.containment.specs.Feasible.{FreshOr0}
 
 -- a number other than 0 is the fresh label
@@ -25,10 +25,10 @@ fresh-none A B (suc l) e f w = absurd (omega arith)
 
 module _ (A B : Pattern) (a b : ℕ) where
   -- what refuses the verdict refuses the call
-  pub verdict-refuses : (r : Refusal) → Refuses (verdictChecks A B) r → Refuses (containmentChecks A B a b) r
+  pub verdict-refuses : (r : Refusal) → Refuses (pairChecks A B) r → Refuses (containmentChecks A B a b) r
   verdict-refuses r h = ⊎-elim inl (λ w. inr (w .0, ⊎-elim inl (λ x. absurd (x .1)) (w .1))) h
 
-  module _ (p : Passes (verdictChecks A B)) where
+  module _ (p : Passes (pairChecks A B)) where
     pub label-refuses : ((l : ℕ) × Fresh (shapeOf A) (shapeOf B) l → ⊥) → Refuses (containmentChecks A B a b) NoLabel
     label-refuses n = inr (p .0, inr (p .1 .0, inl (n, refl)))
 

@@ -16,8 +16,7 @@ use Rattle.containment.specs.Containment.{stepNo, mappingArray, containm
 use Rattle.containment.specs.declared.Containment.{Containment}
 use Rattle.containment.specs.declared.Containment.the-variants as containment
 use Rattle.containment.specs.declared.ContainmentAnswer.{ContainmentAnswer}
-use Rattle.containment.specs.Verdict.{verdictChecks}
-use Rattle.containment.specs.Equality.{DecidesEquality}
+use Rattle.containment.specs.Equality.{pairChecks, DecidesEquality}
 use Rattle.containment.specs.declared.Equality.{Equality}
 use Rattle.containment.specs.declared.Equality.the-variants as equality
 use Rattle.containment.proofs.Deciding.{least-map-unique}
@@ -70,10 +69,10 @@ containment-unique A B parents₀ labels₀ r q parents labels parents′ labels
 pub equality-unique : (A B : Pattern) (r q : Equality) → DecidesEquality A B r → DecidesEquality A B q → r ≡ q
 equality-unique A B equality.Equal equality.Equal h k = refl
 equality-unique A B equality.Equal equality.Different h k = absurd (k .1 (h .1))
-equality-unique A B equality.Equal (equality.Refused q) h k = absurd (refuses-not-passes (verdictChecks A B) q k (h .0))
+equality-unique A B equality.Equal (equality.Refused q) h k = absurd (refuses-not-passes (pairChecks A B) q k (h .0))
 equality-unique A B equality.Different equality.Equal h k = absurd (h .1 (k .1))
 equality-unique A B equality.Different equality.Different h k = refl
-equality-unique A B equality.Different (equality.Refused q) h k = absurd (refuses-not-passes (verdictChecks A B) q k (h .0))
-equality-unique A B (equality.Refused r) equality.Equal h k = absurd (refuses-not-passes (verdictChecks A B) r h (k .0))
-equality-unique A B (equality.Refused r) equality.Different h k = absurd (refuses-not-passes (verdictChecks A B) r h (k .0))
-equality-unique A B (equality.Refused r) (equality.Refused q) h k = ap equality.Refused (refuses-unique (verdictChecks A B) r q h k)
+equality-unique A B equality.Different (equality.Refused q) h k = absurd (refuses-not-passes (pairChecks A B) q k (h .0))
+equality-unique A B (equality.Refused r) equality.Equal h k = absurd (refuses-not-passes (pairChecks A B) r h (k .0))
+equality-unique A B (equality.Refused r) equality.Different h k = absurd (refuses-not-passes (pairChecks A B) r h (k .0))
+equality-unique A B (equality.Refused r) (equality.Refused q) h k = ap equality.Refused (refuses-unique (pairChecks A B) r q h k)

@@ -17,7 +17,8 @@ use Rattle.tables.proofs.Rules.{shape-ordered}
 use Rattle.tables.proofs.Trees.{from-here, from-root, parent-lt}
 use Rattle.containment.specs.Mapping.{BeginsIn, Maps, Contained}
 use Rattle.containment.specs.Containment.{mappingArray, Within}
-use Rattle.containment.specs.Verdict.{verdictChecks, Decides}
+use Rattle.containment.specs.Equality.{pairChecks}
+use Rattle.containment.specs.Verdict.{Decides}
 use Rattle.containment.specs.declared.Verdict.the-variants as verdict
 use Rattle.containment.specs.declared.VerdictAnswer.{VerdictAnswer}
 use Rattle.containment.specs.Feasible.{FitsIn, FitTable, Picks, Chosen}
@@ -84,9 +85,9 @@ module _ (A B : Pattern) where
   told-apart r va vb e m n = rw e ((va, (vb, tt)), n, m)
 
   -- a refusal of the first pattern
-  pub first-refused : (r : Refusal) → ChecksPattern A (checked.Refused r) → Refuses (verdictChecks A B) r
+  pub first-refused : (r : Refusal) → ChecksPattern A (checked.Refused r) → Refuses (pairChecks A B) r
   first-refused r h = ⊎-elim inl (λ w. absurd (w .1)) (h .0)
 
   -- a refusal of the second
-  pub second-refused : (r : Refusal) → ValidPattern A → ChecksPattern B (checked.Refused r) → Refuses (verdictChecks A B) r
+  pub second-refused : (r : Refusal) → ValidPattern A → ChecksPattern B (checked.Refused r) → Refuses (pairChecks A B) r
   second-refused r v h = inr (v, ⊎-elim inl (λ w. absurd (w .1)) (h .0))

@@ -2,7 +2,7 @@
 pub mod Mapping
 pub mod Witness
 pub mod Containment
-pub mod Verdict
 pub mod Equality
+pub mod Verdict
 pub mod Feasible
 pub mod Lookup

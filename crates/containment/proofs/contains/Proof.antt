@@ -14,7 +14,8 @@ use Rattle.tables.specs.declared.StepNo.{StepNo}
 use Rattle.tables.proofs.Refusals.{refuses-not-passes}
 use Rattle.containment.specs.Mapping.{Contained}
 use Rattle.containment.specs.Witness.{Fresh, witnessSize}
-use Rattle.containment.specs.Verdict.{verdictChecks, AnswersVerdict}
+use Rattle.containment.specs.Equality.{pairChecks}
+use Rattle.containment.specs.Verdict.{AnswersVerdict}
 use Rattle.containment.specs.declared.Verdict.{Verdict}
 use Rattle.containment.specs.declared.Verdict.the-variants as verdict
 use Rattle.containment.proofs.Answering.{fresh-of, fresh-none, verdict-refuses, label-refuses, room-refuses, all-pass}
@@ -26,19 +27,19 @@ use Rattle.containment.proofs.contains.Tie as tie
 
 module _ (A B : Pattern) (m : List StepNo) where
   -- a verdict that does not refuse has both patterns right
-  passes : (v : Verdict) → AnswersVerdict A B v m → (tagOf the-type v ≡ 0) ⊎ (tagOf the-type v ≡ 1) → Passes (verdictChecks A B)
+  passes : (v : Verdict) → AnswersVerdict A B v m → (tagOf the-type v ≡ 0) ⊎ (tagOf the-type v ≡ 1) → Passes (pairChecks A B)
   passes verdict.Contained h t = h .0
   passes verdict.Apart h t = h .0
   passes (verdict.Refused r) h t = absurd (⊎-elim (λ e. omega arith) (λ e. omega arith) t)
 
   -- one that does not say contained either says apart
-  apart : (v : Verdict) → AnswersVerdict A B v m → Passes (verdictChecks A B) → (tagOf the-type v ≡ 1) ⊎ (tagOf the-type v ≡ 2) → Contained (shapeOf A) (shapeOf B) → ⊥
+  apart : (v : Verdict) → AnswersVerdict A B v m → Passes (pairChecks A B) → (tagOf the-type v ≡ 1) ⊎ (tagOf the-type v ≡ 2) → Contained (shapeOf A) (shapeOf B) → ⊥
   apart verdict.Contained h p t = absurd (⊎-elim (λ e. omega arith) (λ e. omega arith) t)
   apart verdict.Apart h p t = h .1
-  apart (verdict.Refused r) h p t = absurd (refuses-not-passes (verdictChecks A B) r (h .0) p)
+  apart (verdict.Refused r) h p t = absurd (refuses-not-passes (pairChecks A B) r (h .0) p)
 
 -- past the first test both patterns obey the rules
-sound : (c : tie.At-match-keys2) → Passes (verdictChecks (c .before .before .before .before .args .a) (c .before .before .before .before .args .b))
+sound : (c : tie.At-match-keys2) → Passes (pairChecks (c .before .before .before .before .args .a) (c .before .before .before .before .args .b))
 sound c = passes _ _ _ (c .before .decide .result .answer) (c .before .decide .ensures) (c .match .keys2)
 
 -- past the second a label is free

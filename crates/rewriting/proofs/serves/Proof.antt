@@ -2,8 +2,7 @@
 use mathlib.Core.Path.{_≡_, sym, subst}
 use Rattle.tables.specs.Pattern.{ValidPattern}
 use Rattle.tables.proofs.Refusals.{refuses-not-passes}
-use Rattle.containment.specs.Verdict.{verdictChecks}
-use Rattle.containment.specs.Equality.{DecidesEquality}
+use Rattle.containment.specs.Equality.{pairChecks, DecidesEquality}
 use Rattle.containment.specs.declared.Equality.{Equality}
 use Rattle.containment.proofs.Maps.{equal-sym}
 use Rattle.joining.specs.Join.{joinOf}
@@ -55,7 +54,7 @@ returns-3 c =
     let s = c .before .before .before .before .before in
     let a = s .args in (
       λ t. absurd t,
-      λ h. refuses-not-passes (verdictChecks (a .q) (joinOf (a .v) (a .e))) (c .enum-told3 .given .0 .0) (told (c .before .before) _ (c .enum-told3 .given .1)) (s .pre .0, (valid (c .before .before .before .before), tt)),
+      λ h. refuses-not-passes (pairChecks (a .q) (joinOf (a .v) (a .e))) (c .enum-told3 .given .0 .0) (told (c .before .before) _ (c .enum-told3 .given .1)) (s .pre .0, (valid (c .before .before .before .before), tt)),
     )
 
 pub serves-spec : {M : Type 1} → statement M
