@@ -108,22 +108,22 @@ fn cut(q: Pattern, c: usize) -> Pattern
 fn agree(q: Pattern, v: Pattern, c: usize) -> bool
     requires { ⌜ ValidPattern q × ValidPattern v ⌝ }
     requires { ⌜ (length (mainPath (shapeOf v)) ≤ length (mainPath (shapeOf q))) × (c ≡ cutStep (shapeOf q) (shapeOf v)) ⌝ }
-    ensures { λ r. ⌜ ((E : Pattern) → Serves q v E → T r) ⌝ }
+    ensures { λ r. ⌜ (T r → shapeOf v .label (shapeOf v .output) ≡ shapeOf q .label c) × ((E : Pattern) → Serves q v E → T r) ⌝ }
 {
     let mut s = c;
     let mut t = v.output.0 as usize;
+    if q.label[s] != v.label[t] {
+        return false;
+    }
     while 0 < t {
-        if q.label[s] != v.label[t] {
-            return false;
-        }
         if q.axis[s] != v.axis[t] {
             return false;
         }
         s = q.parent[s] as usize;
         t = v.parent[t] as usize;
-    }
-    if q.label[s] != v.label[t] {
-        return false;
+        if q.label[s] != v.label[t] {
+            return false;
+        }
     }
     q.axis[s] == v.axis[t]
 }
@@ -151,10 +151,6 @@ fn candidate(q: Pattern, v: Pattern) -> Found
         return none;
     }
     let c = main_step(q, n - k);
-    let o = v.output.0 as usize;
-    if v.label[o] != q.label[c] {
-        return none;
-    }
     if !agree(q, v, c) {
         return none;
     }

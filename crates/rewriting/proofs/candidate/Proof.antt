@@ -1,13 +1,12 @@
 -- `rewriting::candidate` meets its contract: the main paths, the label, and then the cut. Assumes nothing.
-use Prim.Native.Nat.{_-_, _≤_, _<_}
+use Prim.Native.Nat.{_-_, _≤_}
 use mathlib.Core.Path.{_≡_, sym, ap, _∙_, subst}
 use native.Mathlib.Omega.{arith}
 use lib.ListN.{length, getD}
 use Rattle.tables.specs.Tree.{From}
 use Rattle.tables.specs.Pattern.{shapeOf}
-use Rattle.tables.proofs.Tests.{failed}
+use Rattle.tables.proofs.Tests.{passed, failed}
 use Rattle.rewriting.specs.Candidate.{mainPath, cutStep, Cut}
-use Rattle.rewriting.proofs.CutTable.{cut-here}
 use Rattle.rewriting.proofs.MainPath.{main-length, cut-on-path}
 use borrow.Author.Needs.{needs}
 use Rattle.rewriting.proofs.candidate.Statement.{statement}
@@ -18,26 +17,22 @@ abbrev entry : tie.After-main-step → tie.Start
 entry x = x .before .before .before .before .before
 
 -- there the query's main path is long enough
-long : (x : tie.Else1) → length (mainPath (shapeOf (x .before .before .before .before .args .t2))) ≤ length (mainPath (shapeOf (x .before .before .before .before .args .t1)))
+long : (x : tie.Else1) → length (mainPath (shapeOf (x .before .before .before .before .args .v))) ≤ length (mainPath (shapeOf (x .before .before .before .before .args .q)))
 long x = omega arith
 
 -- the step found is the cut step
-placed : (x : tie.After-main-step) → x .main-step .result ≡ cutStep (shapeOf (entry x .args .t1)) (shapeOf (entry x .args .t2))
+placed : (x : tie.After-main-step) → x .main-step .result ≡ cutStep (shapeOf (entry x .args .q)) (shapeOf (entry x .args .v))
 unfolding cutStep
 placed x =
     x .main-step .ensures
-    ∙ ap (λ i. getD (mainPath (shapeOf (entry x .args .t1))) i 0)
-    {x = length (mainPath (shapeOf (entry x .args .t1))) - 1 - (x .before .before .main-length2 .result - x .before .before .before .main-length .result)}
-    {y = length (mainPath (shapeOf (entry x .args .t2))) - 1}
+    ∙ ap (λ i. getD (mainPath (shapeOf (entry x .args .q))) i 0)
+    {x = length (mainPath (shapeOf (entry x .args .q))) - 1 - (x .before .before .main-length2 .result - x .before .before .before .main-length .result)}
+    {y = length (mainPath (shapeOf (entry x .args .v))) - 1}
     (omega (arith, long (x .before), main-length (entry x .pre .1)))
 
 -- and the output step is at or below it
-above : (x : tie.After-main-step) → From (shapeOf (entry x .args .t1) .tree) (x .main-step .result) (shapeOf (entry x .args .t1) .output)
-above x = subst (λ s. From (shapeOf (entry x .args .t1) .tree) s (shapeOf (entry x .args .t1) .output)) (sym (placed x)) (cut-on-path (entry x .pre .0) (entry x .pre .1) (long (x .before)) .0)
-
--- so that it is a step of the query
-here : (x : tie.After-main-step) → x .main-step .result < 64
-here x = omega (arith, cut-here (entry x .args .t1) (entry x .pre .0) (x .main-step .result) (above x), entry x .pre .0 .few)
+above : (x : tie.After-main-step) → From (shapeOf (entry x .args .q) .tree) (x .main-step .result) (shapeOf (entry x .args .q) .output)
+above x = subst (λ s. From (shapeOf (entry x .args .q) .tree) s (shapeOf (entry x .args .q) .output)) (sym (placed x)) (cut-on-path (entry x .pre .0) (entry x .pre .1) (long (x .before)) .0)
 
 no-pattern-requires : tie.Need-no-pattern-requires
 no-pattern-requires c κs = search needs
@@ -54,44 +49,25 @@ returns c = (λ b. absurd b, λ E k s. omega (arith, k .long))
 main-step-requires : tie.Need-main-step-requires
 main-step-requires c κs = (c .before .before .before .before .pre .0, omega (arith, main-length (c .before .before .before .before .pre .1)))
 
-cast-o : tie.Need-cast-o
-cast-o c = search needs
-
-mul-if2 : tie.Need-mul-if2
-mul-if2 c = search needs
-
-element-copy-out-if2 : tie.Need-element-copy-out-if2
-element-copy-out-if2 c = search needs
-
-mul-if2-2 : tie.Need-mul-if2-2
-mul-if2-2 c = omega (arith, here (c .before))
-
-element-copy-out-if2-2 : tie.Need-element-copy-out-if2-2
-element-copy-out-if2-2 c = here (c .before)
+agree-requires : tie.Need-agree-requires
+agree-requires c κs = let x = c in (entry x .pre, (long (x .before), placed x))
 
 returns-2 : tie.Need-returns-2
-returns-2 c =
-    let x = c .before .before .before in
-    (λ b. absurd b, λ E k s. omega (arith, k .same, ap (λ i. getD (entry x .args .t1 .label) i 0) (placed x)))
-
-agree-requires : tie.Need-agree-requires
-agree-requires c κs = let x = c .before .before .before in (entry x .pre, (long (x .before), placed x))
-
-returns-3 : tie.Need-returns-3
-returns-3 c = (λ b. absurd b, λ E k s. failed (c .before .agree .result) (c .if3 .taken) (c .before .agree .ensures E s))
+returns-2 c = (λ b. absurd b, λ E k s. failed (c .before .agree .result) (c .if2 .taken) (c .before .agree .ensures .1 E s))
 
 cut-requires : tie.Need-cut-requires
-cut-requires c κs = (entry (c .before .before .before .before .before) .pre .0, above (c .before .before .before .before .before))
+cut-requires c κs = (entry (c .before .before) .pre .0, above (c .before .before))
 
-returns-4 : tie.Need-returns-4
-returns-4 c =
-    let x = c .before .before .before .before .before .before in
+returns-3 : tie.Need-returns-3
+returns-3 c =
+    let x = c .before .before .before in
+    let w = c .before .before .agree in
     let r = c .cut .ensures in (
       λ t. record {
         long = long (x .before);
-        same = omega (arith, ap (λ s. getD (entry x .args .t1 .label) s 0) (placed x));
+        same = w .ensures .0 (passed (w .result) (c .before .if2 .left)) ∙ ap (λ s. getD (entry x .args .q .label) s 0) (placed x);
         shape = r .0;
-        cut = subst (λ s. Cut (shapeOf (entry x .args .t1)) s (r .0)) (placed x) (r .1);
+        cut = subst (λ s. Cut (shapeOf (entry x .args .q)) s (r .0)) (placed x) (r .1);
         table = r .2;
       },
       λ E k s. tt,
@@ -106,13 +82,7 @@ candidate-spec =
     main-length-requires-2
     returns
     main-step-requires
-    cast-o
-    mul-if2
-    element-copy-out-if2
-    mul-if2-2
-    element-copy-out-if2-2
-    returns-2
     agree-requires
-    returns-3
+    returns-2
     cut-requires
-    returns-4)
+    returns-3)
