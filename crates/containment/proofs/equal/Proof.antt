@@ -1,8 +1,10 @@
 -- `containment::equal` meets its contract: both patterns are checked, then each is sought in the other. Assumes nothing.
 use mathlib.Core.Path.{subst}
+use lib.Dec.{T}
 use Rattle.tables.specs.Checks.{ChecksPattern}
-use Rattle.tables.specs.Pattern.{ValidPattern}
+use Rattle.tables.specs.Pattern.{shapeOf, ValidPattern}
 use Rattle.tables.proofs.Tests.{passed, failed}
+use Rattle.containment.specs.Mapping.{Contained}
 use Rattle.containment.proofs.Verdicts.{first-refused, second-refused}
 use borrow.Author.Needs.{needs}
 use Rattle.containment.proofs.equal.Statement.{statement}
@@ -53,12 +55,17 @@ returns-3 c =
     ((valid (c .before .before .before .before .before), (valid-2 (c .before .before), tt)), λ e. failed (w .result) (c .if1 .taken) (w .ensures .1 (e .to)))
 
 within-requires-2 : tie.Need-within-requires-2
-within-requires-2 c κs = (valid-2 (c .before .before), valid (c .before .before .before .before .before))
+within-requires-2 c κs =
+    let v = valid (c .before .before .before .before .before) in
+    let w = valid-2 (c .before .before) in
+    search (needs, v, w)
 
 returns-4 : tie.Need-returns-4
 returns-4 c =
+    let a = c .before .before .before .before .before .before .before .before .before .before .args in
     let w = c .before .within2 in
-    ((valid (c .before .before .before .before .before .before .before), (valid-2 (c .before .before .before .before), tt)), λ e. failed (w .result) (c .if2 .taken) (w .ensures .1 (e .back)))
+    let back : Contained (shapeOf (a .b)) (shapeOf (a .a)) → T (w .result) = w .ensures .1 in
+    ((valid (c .before .before .before .before .before .before .before), (valid-2 (c .before .before .before .before), tt)), λ e. failed (w .result) (c .if2 .taken) (back (e .back)))
 
 returns-5 : tie.Need-returns-5
 returns-5 c =
