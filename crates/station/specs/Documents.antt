@@ -12,7 +12,7 @@
 --   startCheck      the axis of step 0 and the start nodes
 --   startChecks     what the started form checks, in order
 --   StartsPackets   what the started form answers
--- Assumes nothing.
+-- AfterRules, Asked and ReadsAsked are what private functions answer: a reader of the public contracts need not read them. Assumes nothing.
 use Prim.Native.Nat.{ℕ, _*_, _/_, _%_, _≤_}
 use mathlib.Core.Path.{_≡_}
 use mathlib.Core.Logic.{_⊎_}

@@ -1,4 +1,5 @@
 -- `asking::past_document` meets its contract: the view packet, the query packet, the input's end, and then the answers. Assumes nothing.
+use Prim.Native.Nat.{_<_}
 use mathlib.Core.Path.{subst}
 use native.Mathlib.Omega.{arith}
 use denote.Ref.{now}
@@ -65,11 +66,13 @@ number-of-requires-2 c κs = search needs
 slice-aggregate-put-refused-2 : tie.Need-slice-aggregate-put-refused-2
 slice-aggregate-put-refused-2 c = search needs
 
+-- either word has room; which one is written is for the result
 put-refused-requires-2 : tie.Need-put-refused-requires-2
 put-refused-requires-2 c κs =
     let x = c .before .before .before .before .before .before .before .before .before .before .before .before .before .before .before in
     let m = c .before .number-of2 in
-    omega (arith, x .pre .1 .1 .1, refused-short (m .result) queryWord (omega (arith, m .ensures, number-small (c .before .before .before .before .queried .given .0 .0))))
+    let k : m .result < 10 = omega (arith, m .ensures, number-small (c .before .before .before .before .queried .given .0 .0)) in
+    omega (arith, x .pre .1 .1 .1, refused-short (m .result) queryWord k, refused-short (m .result) viewWord k)
 
 same-length-2 : tie.Need-same-length-2
 same-length-2 c = search needs
