@@ -21,26 +21,11 @@ documented y =
     let s = y .before .before .before .before .before .before .before .before .before .before in
     subst (ChecksDocument (record { parents = now (s .args .parents); labels = now (s .args .labels) })) (y .enum-told2 .given .1) (y .before .before .check-document .ensures) .0 .0
 
-check-pattern-requires : tie.Need-check-pattern-requires
-check-pattern-requires c κs = search needs
-
-enum-known-r : tie.Need-enum-known-r
-enum-known-r c = search needs
-
 returns : tie.Need-returns
 returns c =
     let s = c .before .before .before .before .before .before .before .before in
     let v = subst (ChecksPattern (s .args .p)) (c .before .r .given .1) (c .before .before .before .check-pattern .ensures) in
     (⊎-elim inl (λ w. absurd (w .1)) (v .0), (refl, refl))
-
-enum-told : tie.Need-enum-told
-enum-told c = search needs
-
-check-document-requires : tie.Need-check-document-requires
-check-document-requires c κs = search needs
-
-enum-known-r-2 : tie.Need-enum-known-r-2
-enum-known-r-2 c = search needs
 
 returns-2 : tie.Need-returns-2
 returns-2 c =
@@ -48,9 +33,6 @@ returns-2 c =
     let s = x .before .before .before .before .before .before .before in
     let v = subst (ChecksDocument (record { parents = now (s .args .parents); labels = now (s .args .labels) })) (c .before .r2 .given .1) (c .before .before .before .check-document .ensures) in
     (inr (patterned x, ⊎-elim inl (λ w. absurd (w .1)) (v .0)), (refl, refl))
-
-enum-told-2 : tie.Need-enum-told-2
-enum-told-2 c = search needs
 
 returns-3 : tie.Need-returns-3
 returns-3 c =
@@ -67,32 +49,11 @@ find-requires c κs =
     let y = c .before .before .before .before in
     (patterned (y .before .before .before), (documented y, (omega arith, omega arith)))
 
-same-length : tie.Need-same-length
-same-length c = search needs
-
-same-length-2 : tie.Need-same-length-2
-same-length-2 c = search needs
-
 returns-5 : tie.Need-returns-5
 returns-5 c =
     let y = c .before .before .before .before .before .before .before .before .before in
     ((patterned (y .before .before .before), (documented y, ((omega arith, omega arith), tt))), c .before .before .before .before .find .ensures)
 
 pub answers-spec : {M : Type 1} → statement M
-answers-spec =
-    tie.close
-    (tie.spec
-    check-pattern-requires
-    enum-known-r
-    returns
-    enum-told
-    check-document-requires
-    enum-known-r-2
-    returns-2
-    enum-told-2
-    returns-3
-    returns-4
-    find-requires
-    same-length
-    same-length-2
-    returns-5)
+answers-spec = tie.close (tie.spec (λ c κs. search needs) (λ c. search needs) returns (λ c. search needs) (λ c κs. search needs) (λ c. search needs)
+    returns-2 (λ c. search needs) returns-3 returns-4 find-requires (λ c. search needs) (λ c. search needs) returns-5)

@@ -7,26 +7,11 @@ use borrow.Author.Needs.{needs}
 use Rattle.answers.proofs.find.Statement.{statement}
 use Rattle.answers.proofs.find.Tie as tie
 
-element-copy-out-seed : tie.Need-element-copy-out-seed
-element-copy-out-seed c = search needs
-
-cast-seed : tie.Need-cast-seed
-cast-seed c = search needs
-
-rise-requires : tie.Need-rise-requires
-rise-requires c κs = search needs
-
-slice-write-work : tie.Need-slice-write-work
-slice-write-work c = search needs
-
 descend-requires : tie.Need-descend-requires
 descend-requires c κs =
     let s = c .before .before .before .before .before .before .before .before .before .before .before in
     let v = s .pre .1 .0 in
     (s .pre .0, (v, (s .pre .1 .1 .0, plain-ready (shapeOf (s .args .t1)) _ (s .pre .0) v _ _ (s .pre .1 .1 .1) (c .before .before .before .before .rise .ensures))))
-
-same-length : tie.Need-same-length
-same-length c = search needs
 
 returns : tie.Need-returns
 returns c =
@@ -41,14 +26,5 @@ same-length-2 : tie.Need-same-length-2
 same-length-2 c = returns c .working .same-length
 
 pub find-spec : {M : Type 1} → statement M
-find-spec =
-    tie.close
-    (tie.spec
-    element-copy-out-seed
-    cast-seed
-    rise-requires
-    slice-write-work
-    descend-requires
-    same-length
-    same-length-2
-    returns)
+find-spec = tie.close (tie.spec (λ c. search needs) (λ c. search needs) (λ c κs. search needs) (λ c. search needs) descend-requires
+    (λ c. search needs) same-length-2 returns)

@@ -9,24 +9,12 @@ use borrow.Author.Needs.{needs}
 use Rattle.answers.proofs.find_started.Statement.{statement}
 use Rattle.answers.proofs.find_started.Tie as tie
 
-rise-requires : tie.Need-rise-requires
-rise-requires c κs = search needs
-
-mark-starts-requires : tie.Need-mark-starts-requires
-mark-starts-requires c κs = search needs
-
 descend-requires : tie.Need-descend-requires
 descend-requires c κs =
     let s = c .before .before .before .before .before .before .before .before .before .before .before .before .before .before .before in
     let v = s .pre .1 .0 in
     let m = c .before .before .before .before .mark-starts in
     (s .pre .0, (v, (s .pre .1 .1 .1 .0, started-ready (shapeOf (s .args .p)) _ (s .pre .0) v _ _ (s .pre .1 .1 .1 .1) (c .before .before .before .before .before .before .before .before .rise .ensures) (now (s .args .starts)) (m .last .1 .1 .0) (s .pre .1 .1 .0) (m .kept .1 .1 .0) (m .ensures .0) (m .ensures .1))))
-
-same-length : tie.Need-same-length
-same-length c = search needs
-
-same-length-2 : tie.Need-same-length-2
-same-length-2 c = search needs
 
 returns : tie.Need-returns
 returns c =
@@ -39,12 +27,4 @@ returns c =
     (found-before A _ _ _ _ _ _ _ _ (m .kept .1 .1 .0 ∙ u .same-length) (started-rest A _ (s .pre .0) v _ _ (s .pre .1 .1 .1 .1) u (now (s .args .starts)) (m .last .1 .1 .0) (s .pre .1 .1 .0) (m .kept .1 .1 .0) (m .ensures .0) (m .ensures .1)) (c .before .before .before .before .descend .ensures))
 
 pub find-started-spec : {M : Type 1} → statement M
-find-started-spec =
-    tie.close
-    (tie.spec
-    rise-requires
-    mark-starts-requires
-    descend-requires
-    same-length
-    same-length-2
-    returns)
+find-started-spec = tie.close (tie.spec (λ c κs. search needs) (λ c κs. search needs) descend-requires (λ c. search needs) (λ c. search needs) returns)

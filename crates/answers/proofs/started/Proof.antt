@@ -31,26 +31,11 @@ begun z =
     let w = says-passed (StartsRight (now (z .before .before .before .before .before .before .before .before .before .before .before .before .before .before .before .args .starts)) _) (z .before .starts-right .result) (z .if2 .left) (z .before .starts-right .ensures) in
     (z .before .before .if1 .left, record { ascending = w .0; nodes = w .1 })
 
-check-pattern-requires : tie.Need-check-pattern-requires
-check-pattern-requires c κs = search needs
-
-enum-known-r : tie.Need-enum-known-r
-enum-known-r c = search needs
-
 returns : tie.Need-returns
 returns c =
     let s = c .before .before .before .before .before .before .before .before .before in
     let v = subst (ChecksPattern (s .args .t1)) (c .before .r .given .1) (c .before .before .before .check-pattern .ensures) in
     (⊎-elim inl (λ w. absurd (w .1)) (v .0), (refl, refl))
-
-enum-told : tie.Need-enum-told
-enum-told c = search needs
-
-check-document-requires : tie.Need-check-document-requires
-check-document-requires c κs = search needs
-
-enum-known-r-2 : tie.Need-enum-known-r-2
-enum-known-r-2 c = search needs
 
 returns-2 : tie.Need-returns-2
 returns-2 c =
@@ -59,19 +44,10 @@ returns-2 c =
     let v = subst (ChecksDocument (record { parents = now (s .args .parents); labels = now (s .args .labels) })) (c .before .r2 .given .1) (c .before .before .before .check-document .ensures) in
     (inr (patterned x, ⊎-elim inl (λ w. absurd (w .1)) (v .0)), (refl, refl))
 
-enum-told-2 : tie.Need-enum-told-2
-enum-told-2 c = search needs
-
-element-copy-out-if1 : tie.Need-element-copy-out-if1
-element-copy-out-if1 c = search needs
-
 returns-3 : tie.Need-returns-3
 returns-3 c =
     let y = c .before .before in
     (inr (patterned (y .before .before .before), inr (documented y, inl (λ w. c .if1 .taken (w .0), refl))), (refl, refl))
-
-starts-right-requires : tie.Need-starts-right-requires
-starts-right-requires c κs = search needs
 
 returns-4 : tie.Need-returns-4
 returns-4 c =
@@ -93,36 +69,12 @@ find-started-requires c κs =
     let y = c .before .before .before .before .before .before .before .before in
     (patterned (y .before .before .before), (documented y, (begun (c .before .before .before .before) .1 .nodes, (omega arith, omega arith))))
 
-same-length : tie.Need-same-length
-same-length c = search needs
-
-same-length-2 : tie.Need-same-length-2
-same-length-2 c = search needs
-
 returns-7 : tie.Need-returns-7
 returns-7 c =
     let y = c .before .before .before .before .before .before .before .before .before .before .before .before .before in
     ((patterned (y .before .before .before), (documented y, (begun (c .before .before .before .before .before .before .before .before .before), ((omega arith, omega arith), tt)))), c .before .before .before .before .find-started .ensures)
 
 pub started-spec : {M : Type 1} → statement M
-started-spec =
-    tie.close
-    (tie.spec
-    check-pattern-requires
-    enum-known-r
-    returns
-    enum-told
-    check-document-requires
-    enum-known-r-2
-    returns-2
-    enum-told-2
-    element-copy-out-if1
-    returns-3
-    starts-right-requires
-    returns-4
-    returns-5
-    returns-6
-    find-started-requires
-    same-length
-    same-length-2
-    returns-7)
+started-spec = tie.close (tie.spec (λ c κs. search needs) (λ c. search needs) returns (λ c. search needs) (λ c κs. search needs) (λ c. search needs)
+    returns-2 (λ c. search needs) (λ c. search needs) returns-3 (λ c κs. search needs) returns-4 returns-5 returns-6 find-started-requires
+    (λ c. search needs) (λ c. search needs) returns-7)

@@ -10,30 +10,12 @@ use borrow.Author.Needs.{needs}
 use Rattle.asking.proofs.find.Statement.{statement}
 use Rattle.asking.proofs.find.Tie as tie
 
-slice-aggregate-answers : tie.Need-slice-aggregate-answers
-slice-aggregate-answers c = search needs
-
-answers-requires : tie.Need-answers-requires
-answers-requires c κs = search needs
-
-enum-known-c : tie.Need-enum-known-c
-enum-known-c c = search needs
-
-enum-told : tie.Need-enum-told
-enum-told c = search needs
-
-same-length : tie.Need-same-length
-same-length c = search needs
-
 returns : tie.Need-returns
 returns c =
     let x = c .before .before .before .before .before .before .before .before .before .before .before .before in
     let a = c .before .before .before .before .before .before .answers in
     let h = subst (λ r. FindsAnswers (x .args .p) (record { parents = now (x .args .parents); labels = now (x .args .labels) }) (now (x .args .list)) (replicate 4096 0) r (a .last .1 .1 .1 .0) (a .last .1 .1 .1 .1 .0)) (c .before .c .given .1) (a .ensures) in
     found-finds (h .1)
-
-same-length-2 : tie.Need-same-length-2
-same-length-2 c = search needs
 
 returns-2 : tie.Need-returns-2
 returns-2 c =
@@ -43,14 +25,5 @@ returns-2 c =
     absurd (refuses-not-passes (answerChecks (x .args .p) (record { parents = now (x .args .parents); labels = now (x .args .labels) }) (length (now (x .args .list))) 4096) (c .enum-told .given .0 .0) (h .0) (x .pre .0, (x .pre .1 .0, ((omega (arith, x .pre .1 .1, x .pre .1 .0 .few), omega (arith, x .pre .1 .0 .few)), tt))))
 
 pub find-spec : {M : Type 1} → statement M
-find-spec =
-    tie.close
-    (tie.spec
-    slice-aggregate-answers
-    answers-requires
-    enum-known-c
-    enum-told
-    same-length
-    returns
-    same-length-2
-    returns-2)
+find-spec = tie.close (tie.spec (λ c. search needs) (λ c κs. search needs) (λ c. search needs) (λ c. search needs) (λ c. search needs) returns
+    (λ c. search needs) returns-2)

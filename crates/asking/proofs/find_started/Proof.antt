@@ -10,30 +10,12 @@ use borrow.Author.Needs.{needs}
 use Rattle.asking.proofs.find_started.Statement.{statement}
 use Rattle.asking.proofs.find_started.Tie as tie
 
-slice-aggregate-started : tie.Need-slice-aggregate-started
-slice-aggregate-started c = search needs
-
-started-requires : tie.Need-started-requires
-started-requires c κs = search needs
-
-enum-known-c : tie.Need-enum-known-c
-enum-known-c c = search needs
-
-enum-told : tie.Need-enum-told
-enum-told c = search needs
-
-same-length : tie.Need-same-length
-same-length c = search needs
-
 returns : tie.Need-returns
 returns c =
     let x = c .before .before .before .before .before .before .before .before .before .before .before .before .before in
     let a = c .before .before .before .before .before .before .started in
     let h = subst (λ r. FindsStarted (x .args .p) (record { parents = now (x .args .parents); labels = now (x .args .labels) }) (now (x .args .starts)) (now (x .args .list)) (replicate 4096 0) r (a .last .1 .1 .1 .1 .0) (a .last .1 .1 .1 .1 .1 .0)) (c .before .c .given .1) (a .ensures) in
     found-finds (h .1)
-
-same-length-2 : tie.Need-same-length-2
-same-length-2 c = search needs
 
 returns-2 : tie.Need-returns-2
 returns-2 c =
@@ -43,14 +25,5 @@ returns-2 c =
     absurd (refuses-not-passes (startedChecks (x .args .p) (record { parents = now (x .args .parents); labels = now (x .args .labels) }) (now (x .args .starts)) (length (now (x .args .list))) 4096) (c .enum-told .given .0 .0) (h .0) (x .pre .0, (x .pre .1 .0, ((x .pre .1 .1 .0, x .pre .1 .1 .1 .0), ((omega (arith, x .pre .1 .1 .1 .1, x .pre .1 .0 .few), omega (arith, x .pre .1 .0 .few)), tt)))))
 
 pub find-started-spec : {M : Type 1} → statement M
-find-started-spec =
-    tie.close
-    (tie.spec
-    slice-aggregate-started
-    started-requires
-    enum-known-c
-    enum-told
-    same-length
-    returns
-    same-length-2
-    returns-2)
+find-started-spec = tie.close (tie.spec (λ c. search needs) (λ c κs. search needs) (λ c. search needs) (λ c. search needs) (λ c. search needs) returns
+    (λ c. search needs) returns-2)

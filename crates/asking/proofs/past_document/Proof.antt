@@ -17,23 +17,11 @@ pattern-at-requires c κs =
     let x = c .before .before .before .before in
     omega (arith, x .pre .0, next-within (now (x .args .input)) 0 (omega arith) .1)
 
-enum-known-viewed : tie.Need-enum-known-viewed
-enum-known-viewed c = search needs
-
-number-of-requires : tie.Need-number-of-requires
-number-of-requires c κs = search needs
-
-slice-aggregate-put-refused : tie.Need-slice-aggregate-put-refused
-slice-aggregate-put-refused c = search needs
-
 put-refused-requires : tie.Need-put-refused-requires
 put-refused-requires c κs =
     let x = c .before .before .before .before .before .before .before .before .before .before .before in
     let m = c .before .number-of in
     omega (arith, x .pre .1 .1 .1, refused-short (m .result) viewWord (omega (arith, m .ensures, number-small (c .before .before .before .before .viewed .given .0 .0))))
-
-same-length : tie.Need-same-length
-same-length c = search needs
 
 returns : tie.Need-returns
 returns c =
@@ -42,9 +30,6 @@ returns c =
     let u = subst (λ z. ReadAt (now (x .args .input)) (x .args .a) z (v .result .pattern)) (c .before .before .before .before .before .before .before .viewed .given .1) (v .ensures) in
     let m = c .before .before .before .before .number-of in
     view-refused (now (x .args .input)) (x .args .a) (x .pre .0) (x .pre .1 .0) (c .before .before .before .before .before .before .before .viewed .given .0 .0) (v .result .pattern) (m .result) (m .ensures) u (c .before .before .put-refused .ensures)
-
-enum-told : tie.Need-enum-told
-enum-told c = search needs
 
 next-at-requires : tie.Need-next-at-requires
 next-at-requires c κs =
@@ -57,15 +42,6 @@ pattern-at-requires-2 c κs =
     let n = c .next-at in
     omega (arith, n .ensures, next-within (now (x .args .input)) (x .args .a) (omega (arith, x .pre .0, next-within (now (x .args .input)) 0 (omega arith) .1)) .1)
 
-enum-known-queried : tie.Need-enum-known-queried
-enum-known-queried c = search needs
-
-number-of-requires-2 : tie.Need-number-of-requires-2
-number-of-requires-2 c κs = search needs
-
-slice-aggregate-put-refused-2 : tie.Need-slice-aggregate-put-refused-2
-slice-aggregate-put-refused-2 c = search needs
-
 -- either word has room; which one is written is for the result
 put-refused-requires-2 : tie.Need-put-refused-requires-2
 put-refused-requires-2 c κs =
@@ -73,9 +49,6 @@ put-refused-requires-2 c κs =
     let m = c .before .number-of2 in
     let k : m .result < 10 = omega (arith, m .ensures, number-small (c .before .before .before .before .queried .given .0 .0)) in
     omega (arith, x .pre .1 .1 .1, refused-short (m .result) queryWord k, refused-short (m .result) viewWord k)
-
-same-length-2 : tie.Need-same-length-2
-same-length-2 c = search needs
 
 returns-2 : tie.Need-returns-2
 returns-2 c =
@@ -88,25 +61,16 @@ returns-2 c =
     let m = c .before .before .before .before .number-of2 in
     query-refused (now (x .args .input)) (x .args .a) (x .pre .0) (x .pre .1 .0) (v .result .pattern) u (n .result) (n .ensures) (c .before .before .before .before .before .before .before .queried .given .0 .0) (w .result .pattern) (m .result) (m .ensures) q (c .before .before .put-refused2 .ensures)
 
-enum-told-2 : tie.Need-enum-told-2
-enum-told-2 c = search needs
-
 next-at-requires-2 : tie.Need-next-at-requires-2
 next-at-requires-2 c κs =
     let x = c .before .before .before .before .before .before .before .before .before .before .before in
     let n = c .before .before .before .next-at in
     omega (arith, n .ensures, next-within (now (x .args .input)) (x .args .a) (omega (arith, x .pre .0, next-within (now (x .args .input)) 0 (omega arith) .1)) .1)
 
-slice-aggregate-put-refused-3 : tie.Need-slice-aggregate-put-refused-3
-slice-aggregate-put-refused-3 c = search needs
-
 put-refused-requires-3 : tie.Need-put-refused-requires-3
 put-refused-requires-3 c κs =
     let x = c .before .before .before .before .before .before .before .before .before .before .before .before .before .before .before in
     omega (arith, x .pre .1 .1 .1, refused-short 2 inputWord (omega arith))
-
-same-length-3 : tie.Need-same-length-3
-same-length-3 c = search needs
 
 returns-3 : tie.Need-returns-3
 returns-3 c =
@@ -130,9 +94,6 @@ put-answers-requires c κs =
     let d = rules-valid (now (x .args .input)) (record { parents = now (x .args .parents); labels = now (x .args .labels) }) (x .pre .1 .0) (x .pre .1 .1 .0) in
     (read-valid (now (x .args .input)) (n .result) (w .result .pattern) q, (read-valid (now (x .args .input)) (x .args .a) (v .result .pattern) u, (d, omega (arith, x .pre .1 .1 .1))))
 
-same-length-4 : tie.Need-same-length-4
-same-length-4 c = search needs
-
 returns-4 : tie.Need-returns-4
 returns-4 c =
     let x = c .before .before .before .before .before .before .before .before .before .before .before .before .before .before .before .before .before in
@@ -145,31 +106,7 @@ returns-4 c =
     all-answered (now (x .args .input)) (x .args .a) (x .pre .0) (x .pre .1 .0) (v .result .pattern) u (n .result) (n .ensures) (w .result .pattern) q (e .result) (e .ensures) (record { parents = now (x .args .parents); labels = now (x .args .labels) }) (x .pre .1 .1 .0) (omega arith) (c .before .before .put-answers .ensures)
 
 pub past-document-spec : {M : Type 1} → statement M
-past-document-spec =
-    tie.close
-    (tie.spec
-    pattern-at-requires
-    enum-known-viewed
-    number-of-requires
-    slice-aggregate-put-refused
-    put-refused-requires
-    same-length
-    returns
-    enum-told
-    next-at-requires
-    pattern-at-requires-2
-    enum-known-queried
-    number-of-requires-2
-    slice-aggregate-put-refused-2
-    put-refused-requires-2
-    same-length-2
-    returns-2
-    enum-told-2
-    next-at-requires-2
-    slice-aggregate-put-refused-3
-    put-refused-requires-3
-    same-length-3
-    returns-3
-    put-answers-requires
-    same-length-4
-    returns-4)
+past-document-spec = tie.close (tie.spec pattern-at-requires (λ c. search needs) (λ c κs. search needs) (λ c. search needs) put-refused-requires
+    (λ c. search needs) returns (λ c. search needs) next-at-requires pattern-at-requires-2 (λ c. search needs) (λ c κs. search needs)
+    (λ c. search needs) put-refused-requires-2 (λ c. search needs) returns-2 (λ c. search needs) next-at-requires-2 (λ c. search needs)
+    put-refused-requires-3 (λ c. search needs) returns-3 put-answers-requires (λ c. search needs) returns-4)

@@ -11,9 +11,6 @@ use borrow.Author.Needs.{needs}
 use Rattle.asking.proofs.pattern_at.Statement.{statement}
 use Rattle.asking.proofs.pattern_at.Tie as tie
 
-next-at-requires : tie.Need-next-at-requires
-next-at-requires c κs = search needs
-
 sub-read-pattern : tie.Need-sub-read-pattern
 sub-read-pattern c =
     let x = c .before .before in
@@ -29,9 +26,6 @@ part-read-pattern-end c =
     let x = c .before .before in
     omega (arith, c .next-at .ensures, next-within (now (x .args .input)) (x .args .o) (x .pre) .1)
 
-read-pattern-requires : tie.Need-read-pattern-requires
-read-pattern-requires c κs = search needs
-
 returns : tie.Need-returns
 returns c =
     let x = c .before .before .before .before in
@@ -41,12 +35,5 @@ returns c =
     subst (λ l. ReadsPattern l (c .read-pattern .result)) e (c .read-pattern .ensures)
 
 pub pattern-at-spec : {M : Type 1} → statement M
-pattern-at-spec =
-    tie.close
-    (tie.spec
-    next-at-requires
-    sub-read-pattern
-    part-read-pattern-start
-    part-read-pattern-end
-    read-pattern-requires
+pattern-at-spec = tie.close (tie.spec (λ c κs. search needs) sub-read-pattern part-read-pattern-start part-read-pattern-end (λ c κs. search needs)
     returns)

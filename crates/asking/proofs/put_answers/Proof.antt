@@ -27,40 +27,16 @@ query-short y =
     let f = y .find2 in
     found-short (x .args .q) (record { parents = now (x .args .parents); labels = now (x .args .labels) }) (x .pre .0) queryWord (f .result) (f .last .1 .1 .1 .0) (x .pre .1 .1 .0) (f .kept .1 .1 .1 .0) (f .ensures)
 
-slice-aggregate-find : tie.Need-slice-aggregate-find
-slice-aggregate-find c = search needs
-
-find-requires : tie.Need-find-requires
-find-requires c κs = search needs
-
-slice-aggregate-find-2 : tie.Need-slice-aggregate-find-2
-slice-aggregate-find-2 c = search needs
-
-find-requires-2 : tie.Need-find-requires-2
-find-requires-2 c κs = search needs
-
-array-share-prefix-views : tie.Need-array-share-prefix-views
-array-share-prefix-views c = search needs
-
 slice-aggregate-seen : tie.Need-slice-aggregate-seen
 slice-aggregate-seen c = found-count (c .before .before .before .before .before .find .ensures)
 
-array-share-prefix-queries : tie.Need-array-share-prefix-queries
-array-share-prefix-queries c = search needs
-
 slice-aggregate-told : tie.Need-slice-aggregate-told
 slice-aggregate-told c = found-count (c .before .before .before .find2 .ensures)
-
-slice-aggregate-put-line : tie.Need-slice-aggregate-put-line
-slice-aggregate-put-line c = search needs
 
 put-line-requires : tie.Need-put-line-requires
 put-line-requires c κs =
     let y = c .before .before .before .before .before in
     omega (arith, entry y .pre .1 .1 .1, view-short y)
-
-slice-aggregate-put-line-2 : tie.Need-slice-aggregate-put-line-2
-slice-aggregate-put-line-2 c = search needs
 
 put-line-requires-2 : tie.Need-put-line-requires-2
 put-line-requires-2 c κs =
@@ -78,28 +54,10 @@ put-third-requires c κs =
     let l = lists-start (x .args .v) (record { parents = now (x .args .parents); labels = now (x .args .labels) }) (x .pre .1 .0) (take (f .result) (f .last .1 .1 .1 .0)) (f .ensures .lists) in
     (x .pre .0, (x .pre .1 .0, (x .pre .1 .1 .0, (l, omega (arith, x .pre .1 .1 .1, p .ensures .end, p .kept .0, s .ensures .end, s .kept .0, view-short y, query-short y)))))
 
-same-length : tie.Need-same-length
-same-length c = search needs
-
 returns : tie.Need-returns
 returns c = answers-put (c .before .before .before .before .before .before .before .before .before .before .before .before .before .before .before .before .before .before .before .before .find .ensures .lists) (c .before .before .before .before .before .before .before .before .before .before .before .before .before .before .before .before .before .find2 .ensures .lists) (c .before .before .before .before .before .before .before .before .before .before .before .put-line .ensures) (c .before .before .before .before .before .before .put-line2 .ensures) (c .before .before .put-third .ensures)
 
 pub put-answers-spec : {M : Type 1} → statement M
-put-answers-spec =
-    tie.close
-    (tie.spec
-    slice-aggregate-find
-    find-requires
-    slice-aggregate-find-2
-    find-requires-2
-    array-share-prefix-views
-    slice-aggregate-seen
-    array-share-prefix-queries
-    slice-aggregate-told
-    slice-aggregate-put-line
-    put-line-requires
-    slice-aggregate-put-line-2
-    put-line-requires-2
-    put-third-requires
-    same-length
-    returns)
+put-answers-spec = tie.close (tie.spec (λ c. search needs) (λ c κs. search needs) (λ c. search needs) (λ c κs. search needs) (λ c. search needs)
+    slice-aggregate-seen (λ c. search needs) slice-aggregate-told (λ c. search needs) put-line-requires (λ c. search needs) put-line-requires-2
+    put-third-requires (λ c. search needs) returns)

@@ -33,41 +33,17 @@ read y =
 few : (y : tie.After-n) → y .n .given .0 .0 ≤ 2048
 few y = let h = read y in omega (arith, h .1 .0, h .0 .1 .1 .1 .1 .0 .0)
 
-next-at-requires : tie.Need-next-at-requires
-next-at-requires c κs = search needs
-
 slice-aggregate-read-document : tie.Need-slice-aggregate-read-document
 slice-aggregate-read-document c =
     let x = c .before .before .before .before in
     let a = c .before .next-at in
     sym (length-take-le (a .result) (now (x .args .input)) (omega (arith, a .ensures, next-within (now (x .args .input)) 0 (omega arith) .1)))
 
-slice-aggregate-read-document-2 : tie.Need-slice-aggregate-read-document-2
-slice-aggregate-read-document-2 c = search needs
-
-slice-aggregate-read-document-3 : tie.Need-slice-aggregate-read-document-3
-slice-aggregate-read-document-3 c = search needs
-
-read-document-requires : tie.Need-read-document-requires
-read-document-requires c κs = search needs
-
-enum-known-r : tie.Need-enum-known-r
-enum-known-r c = search needs
-
-number-of-requires : tie.Need-number-of-requires
-number-of-requires c κs = search needs
-
-slice-aggregate-put-refused : tie.Need-slice-aggregate-put-refused
-slice-aggregate-put-refused c = search needs
-
 put-refused-requires : tie.Need-put-refused-requires
 put-refused-requires c κs =
     let x = c .before .before .before .before .before .before .before .before .before .before .before .before .before .before .before in
     let m = c .before .number-of in
     omega (arith, x .pre, refused-short (m .result) documentWord (omega (arith, m .ensures, number-small (c .before .before .before .before .r .given .0 .0))))
-
-enum-known-n : tie.Need-enum-known-n
-enum-known-n c = search needs
 
 array-share-prefix-parents : tie.Need-array-share-prefix-parents
 array-share-prefix-parents c = omega (arith, few (c .before), c .before .before .before .before .before .read-document .kept .1 .0)
@@ -97,9 +73,6 @@ past-document-requires c κs =
     let f = fronts (documentPart (now (x .args .input))) (d .last .1 .0) (d .last .1 .1 .0) _ _ (y .n .given .0 .0) (h .1 .0) (h .1 .1) (h .1 .2) in
     (a .ensures, (rules-pass (documentPart (now (x .args .input))) 2048 2048 (h .0), (f, omega (arith, x .pre))))
 
-same-length : tie.Need-same-length
-same-length c = search needs
-
 returns : tie.Need-returns
 returns c =
     let x = c .before .before .before .before .before .before .before .before .before .before .before .before .before .before .before .before .before .before in
@@ -111,32 +84,11 @@ returns c =
     let z = document-read (now (x .args .input)) (a .result) (Refused (r .given .0 .0)) (d .last .1 .0) (d .last .1 .1 .0) (a .ensures) h in
     document-refused (now (x .args .input)) (r .given .0 .0) (d .last .1 .0) (d .last .1 .1 .0) (m .result) (m .ensures) z (c .before .before .put-refused .ensures)
 
-same-length-2 : tie.Need-same-length-2
-same-length-2 c = search needs
-
 returns-2 : tie.Need-returns-2
 returns-2 c = search needs
 
 pub put-reply-spec : {M : Type 1} → statement M
-put-reply-spec =
-    tie.close
-    (tie.spec
-    next-at-requires
-    slice-aggregate-read-document
-    slice-aggregate-read-document-2
-    slice-aggregate-read-document-3
-    read-document-requires
-    enum-known-r
-    number-of-requires
-    slice-aggregate-put-refused
-    put-refused-requires
-    enum-known-n
-    array-share-prefix-parents
-    slice-aggregate-past-document
-    array-share-prefix-labels
-    slice-aggregate-past-document-2
-    past-document-requires
-    same-length
-    returns
-    same-length-2
-    returns-2)
+put-reply-spec = tie.close (tie.spec (λ c κs. search needs) slice-aggregate-read-document (λ c. search needs) (λ c. search needs)
+    (λ c κs. search needs) (λ c. search needs) (λ c κs. search needs) (λ c. search needs) put-refused-requires (λ c. search needs)
+    array-share-prefix-parents slice-aggregate-past-document array-share-prefix-labels slice-aggregate-past-document-2 past-document-requires
+    (λ c. search needs) returns (λ c. search needs) returns-2)

@@ -10,12 +10,6 @@ use borrow.Author.Needs.{needs}
 use Rattle.asking.proofs.put_third.Statement.{statement}
 use Rattle.asking.proofs.put_third.Tie as tie
 
-rewrite-requires : tie.Need-rewrite-requires
-rewrite-requires c κs = search needs
-
-enum-told : tie.Need-enum-told
-enum-told c = search needs
-
 put-started-requires : tie.Need-put-started-requires
 put-started-requires c κs =
     let x = c .before .before .before .before .before .before .before .before in
@@ -24,28 +18,10 @@ put-started-requires c κs =
     let r = handed-right (x .args .q) (x .args .v) (w .result .pattern) h in
     (r .0, (x .pre .1 .1 .0, (r .1, (x .pre .1 .1 .1 .0, omega (arith, x .pre .1 .1 .1 .1)))))
 
-enum-told-2 : tie.Need-enum-told-2
-enum-told-2 c = search needs
-
-slice-aggregate-put-word : tie.Need-slice-aggregate-put-word
-slice-aggregate-put-word c = search needs
-
-put-word-requires : tie.Need-put-word-requires
-put-word-requires c κs = search needs
-
-enum-told-3 : tie.Need-enum-told-3
-enum-told-3 c = search needs
-
-slice-aggregate-put-refused : tie.Need-slice-aggregate-put-refused
-slice-aggregate-put-refused c = search needs
-
 put-refused-requires : tie.Need-put-refused-requires
 put-refused-requires c κs =
     let x = c .before .before .before .before .before .before .before .before .before in
     omega (arith, x .pre .1 .1 .1 .1, refused-short 8 rewritingWord (omega arith))
-
-same-length : tie.Need-same-length
-same-length c = search needs
 
 returns : tie.Need-returns
 returns c =
@@ -55,9 +31,6 @@ returns c =
     let l = c .before .before .put-started .ensures in
     record { text = line rewritingWord (l .answers); third = handed (w .result .pattern) (l .answers) h (l .lists) refl; wrote = l .wrote }
 
-same-length-2 : tie.Need-same-length-2
-same-length-2 c = search needs
-
 returns-2 : tie.Need-returns-2
 unfolding noneLine
 returns-2 c =
@@ -65,9 +38,6 @@ returns-2 c =
     let w = c .before .before .before .before .before .before .before .rewrite in
     let h = subst (λ a. AnswersRewriting (x .args .q) (x .args .v) a (w .result .pattern)) (c .before .before .before .before .before .enum-told2 .given .1) (w .ensures) in
     record { text = noneLine; third = none (h .0, h .1, refl) refl; wrote = c .before .before .put-word .ensures }
-
-same-length-3 : tie.Need-same-length-3
-same-length-3 c = search needs
 
 returns-3 : tie.Need-returns-3
 returns-3 c =
@@ -78,21 +48,6 @@ returns-3 c =
     record { text = refusedLine 8 rewritingWord; third = refused z refl; wrote = c .before .before .put-refused .ensures }
 
 pub put-third-spec : {M : Type 1} → statement M
-put-third-spec =
-    tie.close
-    (tie.spec
-    rewrite-requires
-    enum-told
-    put-started-requires
-    enum-told-2
-    slice-aggregate-put-word
-    put-word-requires
-    enum-told-3
-    slice-aggregate-put-refused
-    put-refused-requires
-    same-length
-    returns
-    same-length-2
-    returns-2
-    same-length-3
-    returns-3)
+put-third-spec = tie.close (tie.spec (λ c κs. search needs) (λ c. search needs) put-started-requires (λ c. search needs) (λ c. search needs)
+    (λ c κs. search needs) (λ c. search needs) (λ c. search needs) put-refused-requires (λ c. search needs) returns (λ c. search needs) returns-2
+    (λ c. search needs) returns-3)

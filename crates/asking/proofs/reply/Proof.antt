@@ -9,14 +9,8 @@ use Rattle.asking.proofs.reply.Tie as tie
 returns : tie.Need-returns
 returns c = (inl ((λ h. omega arith), refl), refl)
 
-put-reply-requires : tie.Need-put-reply-requires
-put-reply-requires c κs = search needs
-
-same-length : tie.Need-same-length
-same-length c = search needs
-
 returns-2 : tie.Need-returns-2
 returns-2 c = search needs
 
 pub reply-spec : {M : Type 1} → statement M
-reply-spec = tie.close (tie.spec returns put-reply-requires same-length returns-2)
+reply-spec = tie.close (tie.spec returns (λ c κs. search needs) (λ c. search needs) returns-2)

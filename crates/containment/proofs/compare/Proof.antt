@@ -8,21 +8,6 @@ use borrow.Author.Needs.{needs}
 use Rattle.containment.proofs.compare.Statement.{statement}
 use Rattle.containment.proofs.compare.Tie as tie
 
-lift-requires : tie.Need-lift-requires
-lift-requires c κs = search needs
-
-element-copy-out-first-image : tie.Need-element-copy-out-first-image
-element-copy-out-first-image c = search needs
-
-element-copy-out-first-image-2 : tie.Need-element-copy-out-first-image-2
-element-copy-out-first-image-2 c = search needs
-
-first-image-requires : tie.Need-first-image-requires
-first-image-requires c κs = search needs
-
-unmapped-requires : tie.Need-unmapped-requires
-unmapped-requires c κs = search needs
-
 -- the step picked is the smallest that may take step 0
 picks : (c : tie.After-first-image)
     → let s = c .before .before .before .before .before .before in
@@ -50,14 +35,5 @@ returns-2 c =
     ((s .pre .0, (s .pre .1, tt)), within-chosen _ _ (s .pre .0) (s .pre .1) _ (c .choose .ensures))
 
 pub compare-spec : {M : Type 1} → statement M
-compare-spec =
-    tie.close
-    (tie.spec
-    lift-requires
-    element-copy-out-first-image
-    element-copy-out-first-image-2
-    first-image-requires
-    unmapped-requires
-    returns
-    choose-requires
-    returns-2)
+compare-spec = tie.close (tie.spec (λ c κs. search needs) (λ c. search needs) (λ c. search needs) (λ c κs. search needs) (λ c κs. search needs)
+    returns choose-requires returns-2)

@@ -56,15 +56,6 @@ room : (c : tie.Else3)
     (witnessSize (shapeOf (s .args .a)) ≤ length (now (s .args .parents))) × (witnessSize (shapeOf (s .args .a)) ≤ length (now (s .args .labels)))
 room c = let z = size (c .before .before .before) in (omega (arith, c .before .if2 .left), omega (arith, c .if3 .left))
 
-decide-requires : tie.Need-decide-requires
-decide-requires c κs = search needs
-
-enum-known-answer : tie.Need-enum-known-answer
-enum-known-answer c = search needs
-
-plain-requires : tie.Need-plain-requires
-plain-requires c κs = search needs
-
 returns : tie.Need-returns
 returns c =
     let k = c .before .before .before .before in
@@ -76,9 +67,6 @@ returns c =
 
 fresh-requires : tie.Need-fresh-requires
 fresh-requires c κs = (sound c .0 .few, sound c .1 .0 .few)
-
-plain-requires-2 : tie.Need-plain-requires-2
-plain-requires-2 c κs = search needs
 
 returns-2 : tie.Need-returns-2
 returns-2 c =
@@ -93,9 +81,6 @@ descendants-before-requires c κs = (sound (c .before .before) .0, omega arith)
 add-m : tie.Need-add-m
 add-m c = record { fits = omega (arith, size (c .before), witness-few (sound (c .before .before .before .before) .0)) }
 
-plain-requires-3 : tie.Need-plain-requires-3
-plain-requires-3 c κs = search needs
-
 returns-3 : tie.Need-returns-3
 returns-3 c =
     let a = c .before .before .before .before .before .before .before .before .before .before .args in
@@ -103,18 +88,12 @@ returns-3 c =
     let u = c .plain3 .ensures in
     rw (u .0) (room-refuses (a .a) (a .b) (length (now (a .parents))) (length (now (a .labels))) (sound (d .before .before .before)) _ (free (d .before)) (λ w. omega (arith, w .0, c .before .if2 .taken, size d)), u .1, refl, refl)
 
-plain-requires-4 : tie.Need-plain-requires-4
-plain-requires-4 c κs = search needs
-
 returns-4 : tie.Need-returns-4
 returns-4 c =
     let a = c .before .before .before .before .before .before .before .before .before .before .before .args in
     let d = c .before .before .before .before in
     let u = c .plain4 .ensures in
     rw (u .0) (room-refuses (a .a) (a .b) (length (now (a .parents))) (length (now (a .labels))) (sound (d .before .before .before)) _ (free (d .before)) (λ w. omega (arith, w .1, c .before .if3 .taken, size d)), u .1, refl, refl)
-
-enum-told : tie.Need-enum-told
-enum-told c = search needs
 
 returns-5 : tie.Need-returns-5
 returns-5 c =
@@ -131,23 +110,8 @@ write-witness-requires c κs =
     let r = room (c .before .before .before) in
     (sound (c .before .before .before .before .before .before .before .before .before) .0, r .0, r .1)
 
-cast-own-node : tie.Need-cast-own-node
-cast-own-node c = search needs
-
 own-node-requires : tie.Need-own-node-requires
 own-node-requires c κs = let v = sound (c .before .before .before .before .before .before .before .before .before .before .before .before .before .before .before) .0 in (v, v .output)
-
-cast-node : tie.Need-cast-node
-cast-node c = search needs
-
-plain-requires-5 : tie.Need-plain-requires-5
-plain-requires-5 c κs = search needs
-
-same-length : tie.Need-same-length
-same-length c = search needs
-
-same-length-2 : tie.Need-same-length-2
-same-length-2 c = search needs
 
 returns-6 : tie.Need-returns-6
 returns-6 c =
@@ -175,29 +139,7 @@ returns-6 c =
     )
 
 pub contains-spec : {M : Type 1} → statement M
-contains-spec =
-    tie.close
-    (tie.spec
-    decide-requires
-    enum-known-answer
-    plain-requires
-    returns
-    fresh-requires
-    plain-requires-2
-    returns-2
-    descendants-before-requires
-    add-m
-    plain-requires-3
-    returns-3
-    plain-requires-4
-    returns-4
-    enum-told
-    returns-5
-    write-witness-requires
-    cast-own-node
-    own-node-requires
-    cast-node
-    plain-requires-5
-    same-length
-    same-length-2
+contains-spec = tie.close (tie.spec (λ c κs. search needs) (λ c. search needs) (λ c κs. search needs) returns fresh-requires (λ c κs. search needs)
+    returns-2 descendants-before-requires add-m (λ c κs. search needs) returns-3 (λ c κs. search needs) returns-4 (λ c. search needs) returns-5
+    write-witness-requires (λ c. search needs) own-node-requires (λ c. search needs) (λ c κs. search needs) (λ c. search needs) (λ c. search needs)
     returns-6)

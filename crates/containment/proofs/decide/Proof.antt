@@ -12,15 +12,6 @@ use Rattle.containment.proofs.decide.Tie as tie
 valid : (x : tie.After-enum-told) → ValidPattern (x .before .before .before .args .a)
 valid x = subst (ChecksPattern (x .before .before .before .args .a)) (x .enum-told .given .1) (x .before .before .check-pattern .ensures) .0 .0
 
-check-pattern-requires : tie.Need-check-pattern-requires
-check-pattern-requires c κs = search needs
-
-enum-known-r : tie.Need-enum-known-r
-enum-known-r c = search needs
-
-unmapped-requires : tie.Need-unmapped-requires
-unmapped-requires c κs = search needs
-
 returns : tie.Need-returns
 returns c =
     let k = c .before .before .before .before in
@@ -28,27 +19,12 @@ returns c =
     let u = c .unmapped .ensures in
     rw (u .0) (first-refused (a .a) (a .b) (c .before .before .r .given .0 .0) (subst (ChecksPattern (a .a)) (c .before .before .r .given .1) (k .check-pattern .ensures)), u .1)
 
-enum-told : tie.Need-enum-told
-enum-told c = search needs
-
-check-pattern-requires-2 : tie.Need-check-pattern-requires-2
-check-pattern-requires-2 c κs = search needs
-
-enum-known-r-2 : tie.Need-enum-known-r-2
-enum-known-r-2 c = search needs
-
-unmapped-requires-2 : tie.Need-unmapped-requires-2
-unmapped-requires-2 c κs = search needs
-
 returns-2 : tie.Need-returns-2
 returns-2 c =
     let k = c .before .before .before .before in
     let a = k .before .before .before .before .args in
     let u = c .unmapped2 .ensures in
     rw (u .0) (second-refused (a .a) (a .b) (c .before .before .r2 .given .0 .0) (valid (k .before)) (subst (ChecksPattern (a .b)) (c .before .before .r2 .given .1) (k .check-pattern2 .ensures)), u .1)
-
-enum-told-2 : tie.Need-enum-told-2
-enum-told-2 c = search needs
 
 compare-requires : tie.Need-compare-requires
 compare-requires c κs =
@@ -64,18 +40,5 @@ returns-3 c =
     d
 
 pub decide-spec : {M : Type 1} → statement M
-decide-spec =
-    tie.close
-    (tie.spec
-    check-pattern-requires
-    enum-known-r
-    unmapped-requires
-    returns
-    enum-told
-    check-pattern-requires-2
-    enum-known-r-2
-    unmapped-requires-2
-    returns-2
-    enum-told-2
-    compare-requires
-    returns-3)
+decide-spec = tie.close (tie.spec (λ c κs. search needs) (λ c. search needs) (λ c κs. search needs) returns (λ c. search needs) (λ c κs. search needs)
+    (λ c. search needs) (λ c κs. search needs) returns-2 (λ c. search needs) compare-requires returns-3)

@@ -18,33 +18,15 @@ valid x = subst (ChecksPattern (x .before .before .before .args .a)) (x .enum-to
 valid-2 : (x : tie.After-enum-told2) → ValidPattern (x .before .before .before .before .before .before .args .b)
 valid-2 x = subst (ChecksPattern (x .before .before .before .before .before .before .args .b)) (x .enum-told2 .given .1) (x .before .before .check-pattern2 .ensures) .0 .0
 
-check-pattern-requires : tie.Need-check-pattern-requires
-check-pattern-requires c κs = search needs
-
-enum-known-r : tie.Need-enum-known-r
-enum-known-r c = search needs
-
 returns : tie.Need-returns
 returns c =
     let a = c .before .before .before .before .args in
     first-refused (a .a) (a .b) (c .before .r .given .0 .0) (subst (ChecksPattern (a .a)) (c .before .r .given .1) (c .before .before .before .check-pattern .ensures))
 
-enum-told : tie.Need-enum-told
-enum-told c = search needs
-
-check-pattern-requires-2 : tie.Need-check-pattern-requires-2
-check-pattern-requires-2 c κs = search needs
-
-enum-known-r-2 : tie.Need-enum-known-r-2
-enum-known-r-2 c = search needs
-
 returns-2 : tie.Need-returns-2
 returns-2 c =
     let a = c .before .before .before .before .before .before .before .args in
     second-refused (a .a) (a .b) (c .before .r2 .given .0 .0) (valid (c .before .before .before .before)) (subst (ChecksPattern (a .b)) (c .before .r2 .given .1) (c .before .before .before .check-pattern2 .ensures))
-
-enum-told-2 : tie.Need-enum-told-2
-enum-told-2 c = search needs
 
 within-requires : tie.Need-within-requires
 within-requires c κs = (valid (c .before .before .before), valid-2 c)
@@ -76,19 +58,5 @@ returns-5 c =
     )
 
 pub equal-spec : {M : Type 1} → statement M
-equal-spec =
-    tie.close
-    (tie.spec
-    check-pattern-requires
-    enum-known-r
-    returns
-    enum-told
-    check-pattern-requires-2
-    enum-known-r-2
-    returns-2
-    enum-told-2
-    within-requires
-    returns-3
-    within-requires-2
-    returns-4
-    returns-5)
+equal-spec = tie.close (tie.spec (λ c κs. search needs) (λ c. search needs) returns (λ c. search needs) (λ c κs. search needs) (λ c. search needs)
+    returns-2 (λ c. search needs) within-requires returns-3 within-requires-2 returns-4 returns-5)

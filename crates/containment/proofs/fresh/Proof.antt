@@ -40,18 +40,6 @@ mark-labels-requires-2 c κs = c .before .before .before .pre .1
 labels-holds : tie.Need-labels-holds Inv-loop μ-loop Inv-loop2 μ-loop2 Inv-labels μ-labels
 labels-holds c = (omega arith, λ k g h. absurd (omega arith))
 
-add-l : tie.Need-add-l Inv-loop μ-loop Inv-loop2 μ-loop2 Inv-labels μ-labels
-add-l c = omega arith
-
-cast-if3 : tie.Need-cast-if3 Inv-loop μ-loop Inv-loop2 μ-loop2 Inv-labels μ-labels
-cast-if3 c = omega arith
-
-array-read-if3 : tie.Need-array-read-if3 Inv-loop μ-loop Inv-loop2 μ-loop2 Inv-labels μ-labels
-array-read-if3 c = omega arith
-
-labels-less : tie.Need-labels-less Inv-loop μ-loop Inv-loop2 μ-loop2 Inv-labels μ-labels
-labels-less c = omega arith
-
 labels-again : tie.Need-labels-again Inv-loop μ-loop Inv-loop2 μ-loop2 Inv-labels μ-labels
 labels-again c =
     let l = c .before .before .before .labels in (
@@ -66,16 +54,6 @@ labels-again c =
 loop-holds : tie.Need-loop-holds Inv-loop μ-loop Inv-loop2 μ-loop2 Inv-labels μ-labels
 loop-holds c = (omega arith, λ k g h. omega arith)
 
-mul-if4 : tie.Need-mul-if4 Inv-loop μ-loop Inv-loop2 μ-loop2 Inv-labels μ-labels
-mul-if4 c = omega arith
-
-element-copy-out-if4 :
-    tie.Need-element-copy-out-if4 Inv-loop μ-loop Inv-loop2 μ-loop2 Inv-labels μ-labels
-element-copy-out-if4 c = omega arith
-
-labels-less-2 : tie.Need-labels-less-2 Inv-loop μ-loop Inv-loop2 μ-loop2 Inv-labels μ-labels
-labels-less-2 c = omega arith
-
 labels-again-2 : tie.Need-labels-again-2 Inv-loop μ-loop Inv-loop2 μ-loop2 Inv-labels μ-labels
 labels-again-2 c =
     let l = c .before .before .before .before .before .before .labels in (
@@ -84,27 +62,11 @@ labels-again-2 c =
           (λ z. inl (record { step = c .before .before .before .loop .s; here = omega arith; is = c .if4 .taken })),
     )
 
-add-s : tie.Need-add-s Inv-loop μ-loop Inv-loop2 μ-loop2 Inv-labels μ-labels
-add-s c = omega arith
-
-loop-less : tie.Need-loop-less Inv-loop μ-loop Inv-loop2 μ-loop2 Inv-labels μ-labels
-loop-less c = omega arith
-
 loop-again : tie.Need-loop-again Inv-loop μ-loop Inv-loop2 μ-loop2 Inv-labels μ-labels
 loop-again c = (omega arith, below-more _ _ (c .before .before .before .loop .inv .1) (c .if4 .left))
 
 loop2-holds : tie.Need-loop2-holds Inv-loop μ-loop Inv-loop2 μ-loop2 Inv-labels μ-labels
 loop2-holds c = (omega arith, λ k g h. omega arith)
-
-mul-if5 : tie.Need-mul-if5 Inv-loop μ-loop Inv-loop2 μ-loop2 Inv-labels μ-labels
-mul-if5 c = omega arith
-
-element-copy-out-if5 :
-    tie.Need-element-copy-out-if5 Inv-loop μ-loop Inv-loop2 μ-loop2 Inv-labels μ-labels
-element-copy-out-if5 c = omega arith
-
-labels-less-3 : tie.Need-labels-less-3 Inv-loop μ-loop Inv-loop2 μ-loop2 Inv-labels μ-labels
-labels-less-3 c = omega arith
 
 labels-again-3 : tie.Need-labels-again-3 Inv-loop μ-loop Inv-loop2 μ-loop2 Inv-labels μ-labels
 labels-again-3 c =
@@ -113,12 +75,6 @@ labels-again-3 c =
       below-more (λ (k : ℕ). 1 ≤ k → Stands _ k ⊎ Stands _ k) (l .l + 1) (l .inv .1)
           (λ z. inr (record { step = c .before .before .before .loop2 .t; here = omega arith; is = c .if5 .taken })),
     )
-
-add-t : tie.Need-add-t Inv-loop μ-loop Inv-loop2 μ-loop2 Inv-labels μ-labels
-add-t c = omega arith
-
-loop2-less : tie.Need-loop2-less Inv-loop μ-loop Inv-loop2 μ-loop2 Inv-labels μ-labels
-loop2-less c = omega arith
 
 loop2-again : tie.Need-loop2-again Inv-loop μ-loop Inv-loop2 μ-loop2 Inv-labels μ-labels
 loop2-again c = (omega arith, below-more _ _ (c .before .before .before .loop2 .inv .1) (c .if5 .left))
@@ -139,38 +95,7 @@ returns-2 c =
     }
 
 pub fresh-spec : {M : Type 1} → statement M
-fresh-spec =
-    tie.close
-    (tie.spec
-    Inv-loop
-    μ-loop
-    Inv-loop2
-    μ-loop2
-    Inv-labels
-    μ-labels
-    mark-labels-requires
-    mark-labels-requires-2
-    labels-holds
-    add-l
-    cast-if3
-    array-read-if3
-    labels-less
-    labels-again
-    loop-holds
-    mul-if4
-    element-copy-out-if4
-    labels-less-2
-    labels-again-2
-    add-s
-    loop-less
-    loop-again
-    loop2-holds
-    mul-if5
-    element-copy-out-if5
-    labels-less-3
-    labels-again-3
-    add-t
-    loop2-less
-    loop2-again
-    returns
-    returns-2)
+fresh-spec = tie.close (tie.spec Inv-loop μ-loop Inv-loop2 μ-loop2 Inv-labels μ-labels mark-labels-requires mark-labels-requires-2 labels-holds
+    (λ c. omega arith) (λ c. omega arith) (λ c. omega arith) (λ c. omega arith) labels-again loop-holds (λ c. omega arith) (λ c. omega arith)
+    (λ c. omega arith) labels-again-2 (λ c. omega arith) (λ c. omega arith) loop-again loop2-holds (λ c. omega arith) (λ c. omega arith)
+    (λ c. omega arith) labels-again-3 (λ c. omega arith) (λ c. omega arith) loop2-again returns returns-2)

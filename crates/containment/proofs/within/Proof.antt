@@ -6,18 +6,6 @@ use borrow.Author.Needs.{needs}
 use Rattle.containment.proofs.within.Statement.{statement}
 use Rattle.containment.proofs.within.Tie as tie
 
-lift-requires : tie.Need-lift-requires
-lift-requires c κs = search needs
-
-element-copy-out-first-image : tie.Need-element-copy-out-first-image
-element-copy-out-first-image c = search needs
-
-element-copy-out-first-image-2 : tie.Need-element-copy-out-first-image-2
-element-copy-out-first-image-2 c = search needs
-
-first-image-requires : tie.Need-first-image-requires
-first-image-requires c κs = search needs
-
 returns : tie.Need-returns
 returns c =
     let s = c .before .before .before .before .before .before in
@@ -30,5 +18,4 @@ returns c =
     )
 
 pub within-spec : {M : Type 1} → statement M
-within-spec =
-    tie.close (tie.spec lift-requires element-copy-out-first-image element-copy-out-first-image-2 first-image-requires returns)
+within-spec = tie.close (tie.spec (λ c κs. search needs) (λ c. search needs) (λ c. search needs) (λ c κs. search needs) returns)

@@ -27,33 +27,12 @@ view x = subst (ChecksPattern (x .before .before .before .args .t1)) (x .enum-to
 tail : (x : tie.After-enum-told2) → ValidPattern (x .before .before .before .before .before .before .args .t2)
 tail x = subst (ChecksPattern (x .before .before .before .before .before .before .args .t2)) (x .enum-told2 .given .1) (x .before .before .check-pattern2 .ensures) .0 .0
 
-check-pattern-requires : tie.Need-check-pattern-requires
-check-pattern-requires c κs = search needs
-
-enum-known-r : tie.Need-enum-known-r
-enum-known-r c = search needs
-
-refused-requires : tie.Need-refused-requires
-refused-requires c κs = search needs
-
 returns : tie.Need-returns
 returns c =
     let k = c .before .before .before .before in
     let a = k .before .args in
     let v = subst (ChecksPattern (a .t1)) (c .before .before .r .given .1) (k .check-pattern .ensures) in
     refuse (a .t1) (a .t2) (c .before .before .r .given .0 .0) (c .refused .result) (c .refused .ensures) (⊎-elim inl (λ w. absurd (w .1)) (v .0))
-
-enum-told : tie.Need-enum-told
-enum-told c = search needs
-
-check-pattern-requires-2 : tie.Need-check-pattern-requires-2
-check-pattern-requires-2 c κs = search needs
-
-enum-known-r-2 : tie.Need-enum-known-r-2
-enum-known-r-2 c = search needs
-
-refused-requires-2 : tie.Need-refused-requires-2
-refused-requires-2 c κs = search needs
 
 returns-2 : tie.Need-returns-2
 returns-2 c =
@@ -63,35 +42,14 @@ returns-2 c =
     refuse (a .t1) (a .t2) (c .before .before .r2 .given .0 .0) (c .refused2 .result) (c .refused2 .ensures)
     (inr (view (k .before), ⊎-elim inl (λ w. absurd (w .1)) (v .0)))
 
-enum-told-2 : tie.Need-enum-told-2
-enum-told-2 c = search needs
-
-element-copy-out-if1 : tie.Need-element-copy-out-if1
-element-copy-out-if1 c = search needs
-
-refused-requires-3 : tie.Need-refused-requires-3
-refused-requires-3 c κs = search needs
-
 returns-3 : tie.Need-returns-3
 returns-3 c =
     let x = c .before .before .before in
     let a = x .before .before .before .before .before .before .args in
     refuse (a .t1) (a .t2) Start (c .refused3 .result) (c .refused3 .ensures) (inr (view (x .before .before .before), inr (tail x, inl (λ e. omega arith, refl))))
 
-cast-o : tie.Need-cast-o
-cast-o c = search needs
-
-mul-if2 : tie.Need-mul-if2
-mul-if2 c = search needs
-
 element-copy-out-if2 : tie.Need-element-copy-out-if2
 element-copy-out-if2 c = omega (arith, view (c .before .before .before .before .before) .output, view (c .before .before .before .before .before) .few)
-
-element-copy-out-if2-2 : tie.Need-element-copy-out-if2-2
-element-copy-out-if2-2 c = search needs
-
-refused-requires-4 : tie.Need-refused-requires-4
-refused-requires-4 c κs = search needs
 
 returns-4 : tie.Need-returns-4
 returns-4 c =
@@ -105,9 +63,6 @@ sub-if3 c = omega (arith, tail (c .before .before .before .before .before) .some
 
 add-if3 : tie.Need-add-if3
 add-if3 c = let x = c .before .before .before .before .before in omega (arith, view (x .before .before .before) .few, tail x .few)
-
-refused-requires-5 : tie.Need-refused-requires-5
-refused-requires-5 c κs = search needs
 
 returns-5 : tie.Need-returns-5
 returns-5 c =
@@ -127,31 +82,7 @@ returns-6 c =
     ((view (x .before .before .before), (tail x, (omega arith, (omega arith, (omega arith, tt))))), c .join-table .ensures)
 
 pub join-spec : {M : Type 1} → statement M
-join-spec =
-    tie.close
-    (tie.spec
-    check-pattern-requires
-    enum-known-r
-    refused-requires
-    returns
-    enum-told
-    check-pattern-requires-2
-    enum-known-r-2
-    refused-requires-2
-    returns-2
-    enum-told-2
-    element-copy-out-if1
-    refused-requires-3
-    returns-3
-    cast-o
-    mul-if2
-    element-copy-out-if2
-    element-copy-out-if2-2
-    refused-requires-4
-    returns-4
-    sub-if3
-    add-if3
-    refused-requires-5
-    returns-5
-    join-table-requires
-    returns-6)
+join-spec = tie.close (tie.spec (λ c κs. search needs) (λ c. search needs) (λ c κs. search needs) returns (λ c. search needs) (λ c κs. search needs)
+    (λ c. search needs) (λ c κs. search needs) returns-2 (λ c. search needs) (λ c. search needs) (λ c κs. search needs) returns-3 (λ c. search needs)
+    (λ c. search needs) element-copy-out-if2 (λ c. search needs) (λ c κs. search needs) returns-4 sub-if3 add-if3 (λ c κs. search needs) returns-5
+    join-table-requires returns-6)

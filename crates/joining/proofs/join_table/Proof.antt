@@ -37,54 +37,9 @@ abbrev μ-loop3 : tie.MeasureT-loop3
 before : (p : Pattern) → ValidPattern p → (s : ℕ) → 0 < s → s < p .count → getD (p .parent) s 0 < s
 before p v s = parent-lt (shape-ordered v) s
 
-sub-more : tie.Need-sub-more Inv-loop μ-loop Inv-loop2 μ-loop2 Inv-loop3 μ-loop3
-sub-more c = omega arith
-
-add-n : tie.Need-add-n Inv-loop μ-loop Inv-loop2 μ-loop2 Inv-loop3 μ-loop3
-add-n c = omega arith
-
-add-t19 : tie.Need-add-t19 Inv-loop μ-loop Inv-loop2 μ-loop2 Inv-loop3 μ-loop3
-add-t19 c = omega arith
-
-cast-last : tie.Need-cast-last Inv-loop μ-loop Inv-loop2 μ-loop2 Inv-loop3 μ-loop3
-cast-last c = omega arith
-
 loop-holds : tie.Need-loop-holds Inv-loop μ-loop Inv-loop2 μ-loop2 Inv-loop3 μ-loop3
 unfolding joinShape tableOf
 loop-holds c = (omega arith, filled-none (joinShape (shapeOf (c .args .t1)) (shapeOf (c .args .t2))) _ _ refl refl (omega arith))
-
-element-copy-out-p :
-    tie.Need-element-copy-out-p Inv-loop μ-loop Inv-loop2 μ-loop2 Inv-loop3 μ-loop3
-element-copy-out-p c = omega arith
-
-element-write-p : tie.Need-element-write-p Inv-loop μ-loop Inv-loop2 μ-loop2 Inv-loop3 μ-loop3
-element-write-p c = omega arith
-
-element-copy-out-p-2 :
-    tie.Need-element-copy-out-p-2 Inv-loop μ-loop Inv-loop2 μ-loop2 Inv-loop3 μ-loop3
-element-copy-out-p-2 c = omega arith
-
-element-write-p-2 : tie.Need-element-write-p-2 Inv-loop μ-loop Inv-loop2 μ-loop2 Inv-loop3 μ-loop3
-element-write-p-2 c = omega arith
-
-mul-p : tie.Need-mul-p Inv-loop μ-loop Inv-loop2 μ-loop2 Inv-loop3 μ-loop3
-mul-p c = omega arith
-
-element-copy-out-p-3 :
-    tie.Need-element-copy-out-p-3 Inv-loop μ-loop Inv-loop2 μ-loop2 Inv-loop3 μ-loop3
-element-copy-out-p-3 c = omega arith
-
-mul-p-2 : tie.Need-mul-p-2 Inv-loop μ-loop Inv-loop2 μ-loop2 Inv-loop3 μ-loop3
-mul-p-2 c = omega arith
-
-element-write-p-3 : tie.Need-element-write-p-3 Inv-loop μ-loop Inv-loop2 μ-loop2 Inv-loop3 μ-loop3
-element-write-p-3 c = omega arith
-
-add-u : tie.Need-add-u Inv-loop μ-loop Inv-loop2 μ-loop2 Inv-loop3 μ-loop3
-add-u c = omega arith
-
-loop-less : tie.Need-loop-less Inv-loop μ-loop Inv-loop2 μ-loop2 Inv-loop3 μ-loop3
-loop-less c = omega arith
 
 loop-again : tie.Need-loop-again Inv-loop μ-loop Inv-loop2 μ-loop2 Inv-loop3 μ-loop3
 unfolding joinShape
@@ -101,49 +56,10 @@ loop-again c =
 loop2-holds : tie.Need-loop2-holds Inv-loop μ-loop Inv-loop2 μ-loop2 Inv-loop3 μ-loop3
 loop2-holds c = (omega arith, omega arith, c .before .loop .inv .1)
 
-add-loop2 : tie.Need-add-loop2 Inv-loop μ-loop Inv-loop2 μ-loop2 Inv-loop3 μ-loop3
-add-loop2 c = omega arith
-
-sub-t : tie.Need-sub-t Inv-loop μ-loop Inv-loop2 μ-loop2 Inv-loop3 μ-loop3
-sub-t c = omega arith
-
-element-copy-out-p-4 :
-    tie.Need-element-copy-out-p-4 Inv-loop μ-loop Inv-loop2 μ-loop2 Inv-loop3 μ-loop3
-element-copy-out-p-4 c = omega arith
-
 add-p : tie.Need-add-p Inv-loop μ-loop Inv-loop2 μ-loop2 Inv-loop3 μ-loop3
 add-p c =
     let s = c .before .before .before .before .before in
     omega (arith, before (s .args .t2) (s .pre .1 .0) (c .before .before .loop2 .u - s .args .t1 .output .0) (omega arith) (omega arith))
-
-element-write-p-4 : tie.Need-element-write-p-4 Inv-loop μ-loop Inv-loop2 μ-loop2 Inv-loop3 μ-loop3
-element-write-p-4 c = omega arith
-
-element-copy-out-p-5 :
-    tie.Need-element-copy-out-p-5 Inv-loop μ-loop Inv-loop2 μ-loop2 Inv-loop3 μ-loop3
-element-copy-out-p-5 c = omega arith
-
-element-write-p-5 : tie.Need-element-write-p-5 Inv-loop μ-loop Inv-loop2 μ-loop2 Inv-loop3 μ-loop3
-element-write-p-5 c = omega arith
-
-mul-p-3 : tie.Need-mul-p-3 Inv-loop μ-loop Inv-loop2 μ-loop2 Inv-loop3 μ-loop3
-mul-p-3 c = omega arith
-
-element-copy-out-p-6 :
-    tie.Need-element-copy-out-p-6 Inv-loop μ-loop Inv-loop2 μ-loop2 Inv-loop3 μ-loop3
-element-copy-out-p-6 c = omega arith
-
-mul-p-4 : tie.Need-mul-p-4 Inv-loop μ-loop Inv-loop2 μ-loop2 Inv-loop3 μ-loop3
-mul-p-4 c = omega arith
-
-element-write-p-6 : tie.Need-element-write-p-6 Inv-loop μ-loop Inv-loop2 μ-loop2 Inv-loop3 μ-loop3
-element-write-p-6 c = omega arith
-
-add-u-2 : tie.Need-add-u-2 Inv-loop μ-loop Inv-loop2 μ-loop2 Inv-loop3 μ-loop3
-add-u-2 c = omega arith
-
-loop2-less : tie.Need-loop2-less Inv-loop μ-loop Inv-loop2 μ-loop2 Inv-loop3 μ-loop3
-loop2-less c = omega arith
 
 loop2-again : tie.Need-loop2-again Inv-loop μ-loop Inv-loop2 μ-loop2 Inv-loop3 μ-loop3
 unfolding joinShape
@@ -163,52 +79,10 @@ loop2-again c =
 loop3-holds : tie.Need-loop3-holds Inv-loop μ-loop Inv-loop2 μ-loop2 Inv-loop3 μ-loop3
 loop3-holds c = (omega arith, c .before .loop2 .inv .2)
 
-sub-s : tie.Need-sub-s Inv-loop μ-loop Inv-loop2 μ-loop2 Inv-loop3 μ-loop3
-sub-s c = omega arith
-
-sub-s-2 : tie.Need-sub-s-2 Inv-loop μ-loop Inv-loop2 μ-loop2 Inv-loop3 μ-loop3
-sub-s-2 c = omega arith
-
-element-copy-out-q :
-    tie.Need-element-copy-out-q Inv-loop μ-loop Inv-loop2 μ-loop2 Inv-loop3 μ-loop3
-element-copy-out-q c = omega arith
-
-cast-q : tie.Need-cast-q Inv-loop μ-loop Inv-loop2 μ-loop2 Inv-loop3 μ-loop3
-cast-q c = omega arith
-
 add-q : tie.Need-add-q Inv-loop μ-loop Inv-loop2 μ-loop2 Inv-loop3 μ-loop3
 add-q c =
     let s = c .before .before .before .before .before .before .before .before in
     omega (arith, before (s .args .t1) (s .pre .0) (c .before .before .before .loop3 .u - (s .args .t2 .count - 1)) (omega arith) (omega arith))
-
-element-write-p-7 : tie.Need-element-write-p-7 Inv-loop μ-loop Inv-loop2 μ-loop2 Inv-loop3 μ-loop3
-element-write-p-7 c = omega arith
-
-element-copy-out-p-7 :
-    tie.Need-element-copy-out-p-7 Inv-loop μ-loop Inv-loop2 μ-loop2 Inv-loop3 μ-loop3
-element-copy-out-p-7 c = omega arith
-
-element-write-p-8 : tie.Need-element-write-p-8 Inv-loop μ-loop Inv-loop2 μ-loop2 Inv-loop3 μ-loop3
-element-write-p-8 c = omega arith
-
-mul-p-5 : tie.Need-mul-p-5 Inv-loop μ-loop Inv-loop2 μ-loop2 Inv-loop3 μ-loop3
-mul-p-5 c = omega arith
-
-element-copy-out-p-8 :
-    tie.Need-element-copy-out-p-8 Inv-loop μ-loop Inv-loop2 μ-loop2 Inv-loop3 μ-loop3
-element-copy-out-p-8 c = omega arith
-
-mul-p-6 : tie.Need-mul-p-6 Inv-loop μ-loop Inv-loop2 μ-loop2 Inv-loop3 μ-loop3
-mul-p-6 c = omega arith
-
-element-write-p-9 : tie.Need-element-write-p-9 Inv-loop μ-loop Inv-loop2 μ-loop2 Inv-loop3 μ-loop3
-element-write-p-9 c = omega arith
-
-add-u-3 : tie.Need-add-u-3 Inv-loop μ-loop Inv-loop2 μ-loop2 Inv-loop3 μ-loop3
-add-u-3 c = omega arith
-
-loop3-less : tie.Need-loop3-less Inv-loop μ-loop Inv-loop2 μ-loop2 Inv-loop3 μ-loop3
-loop3-less c = omega arith
 
 loop3-again : tie.Need-loop3-again Inv-loop μ-loop Inv-loop2 μ-loop2 Inv-loop3 μ-loop3
 unfolding joinShape
@@ -231,60 +105,10 @@ unfolding joinShape joinOf
 returns c = filled-all (c .before .loop3 .inv .1) (omega arith)
 
 pub join-table-spec : {M : Type 1} → statement M
-join-table-spec =
-    tie.close
-    (tie.spec
-    Inv-loop
-    μ-loop
-    Inv-loop2
-    μ-loop2
-    Inv-loop3
-    μ-loop3
-    sub-more
-    add-n
-    add-t19
-    cast-last
-    loop-holds
-    element-copy-out-p
-    element-write-p
-    element-copy-out-p-2
-    element-write-p-2
-    mul-p
-    element-copy-out-p-3
-    mul-p-2
-    element-write-p-3
-    add-u
-    loop-less
-    loop-again
-    loop2-holds
-    add-loop2
-    sub-t
-    element-copy-out-p-4
-    add-p
-    element-write-p-4
-    element-copy-out-p-5
-    element-write-p-5
-    mul-p-3
-    element-copy-out-p-6
-    mul-p-4
-    element-write-p-6
-    add-u-2
-    loop2-less
-    loop2-again
-    loop3-holds
-    sub-s
-    sub-s-2
-    element-copy-out-q
-    cast-q
-    add-q
-    element-write-p-7
-    element-copy-out-p-7
-    element-write-p-8
-    mul-p-5
-    element-copy-out-p-8
-    mul-p-6
-    element-write-p-9
-    add-u-3
-    loop3-less
-    loop3-again
-    returns)
+join-table-spec = tie.close (tie.spec Inv-loop μ-loop Inv-loop2 μ-loop2 Inv-loop3 μ-loop3 (λ c. omega arith) (λ c. omega arith) (λ c. omega arith)
+    (λ c. omega arith) loop-holds (λ c. omega arith) (λ c. omega arith) (λ c. omega arith) (λ c. omega arith) (λ c. omega arith) (λ c. omega arith)
+    (λ c. omega arith) (λ c. omega arith) (λ c. omega arith) (λ c. omega arith) loop-again loop2-holds (λ c. omega arith) (λ c. omega arith)
+    (λ c. omega arith) add-p (λ c. omega arith) (λ c. omega arith) (λ c. omega arith) (λ c. omega arith) (λ c. omega arith) (λ c. omega arith)
+    (λ c. omega arith) (λ c. omega arith) (λ c. omega arith) loop2-again loop3-holds (λ c. omega arith) (λ c. omega arith) (λ c. omega arith)
+    (λ c. omega arith) add-q (λ c. omega arith) (λ c. omega arith) (λ c. omega arith) (λ c. omega arith) (λ c. omega arith) (λ c. omega arith)
+    (λ c. omega arith) (λ c. omega arith) (λ c. omega arith) loop3-again returns)

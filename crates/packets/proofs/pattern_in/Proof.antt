@@ -30,57 +30,9 @@ Inv-loop s n p₀ k₀ p k = Filled s n k p
 abbrev μ-loop : tie.MeasureT-loop
 μ-loop s n p₀ k₀ p k = n - k
 
-shared-slice-read-t10 : tie.Need-shared-slice-read-t10 Inv-loop μ-loop
-shared-slice-read-t10 c = omega arith
-
 loop-holds : tie.Need-loop-holds Inv-loop μ-loop
 unfolding blocks
 loop-holds c = record { low = omega arith; count = refl; output = refl; parents = refl; axes = refl; labels = refl }
-
-mul-p : tie.Need-mul-p Inv-loop μ-loop
-mul-p c = omega arith
-
-add-p : tie.Need-add-p Inv-loop μ-loop
-add-p c = omega arith
-
-shared-slice-read-p : tie.Need-shared-slice-read-p Inv-loop μ-loop
-shared-slice-read-p c = omega arith
-
-element-write-p : tie.Need-element-write-p Inv-loop μ-loop
-element-write-p c = omega arith
-
-mul-p-2 : tie.Need-mul-p-2 Inv-loop μ-loop
-mul-p-2 c = omega arith
-
-add-p-2 : tie.Need-add-p-2 Inv-loop μ-loop
-add-p-2 c = omega arith
-
-shared-slice-read-p-2 : tie.Need-shared-slice-read-p-2 Inv-loop μ-loop
-shared-slice-read-p-2 c = omega arith
-
-element-write-p-2 : tie.Need-element-write-p-2 Inv-loop μ-loop
-element-write-p-2 c = omega arith
-
-mul-half-at : tie.Need-mul-half-at Inv-loop μ-loop
-mul-half-at c = omega arith
-
-add-half-at : tie.Need-add-half-at Inv-loop μ-loop
-add-half-at c = omega arith
-
-half-at-requires : tie.Need-half-at-requires Inv-loop μ-loop
-half-at-requires c κs = omega arith
-
-mul-p-3 : tie.Need-mul-p-3 Inv-loop μ-loop
-mul-p-3 c = omega arith
-
-element-write-p-3 : tie.Need-element-write-p-3 Inv-loop μ-loop
-element-write-p-3 c = omega arith
-
-add-k : tie.Need-add-k Inv-loop μ-loop
-add-k c = omega arith
-
-loop-less : tie.Need-loop-less Inv-loop μ-loop
-loop-less c = omega arith
 
 loop-again : tie.Need-loop-again Inv-loop μ-loop
 loop-again c =
@@ -104,27 +56,6 @@ returns c =
     pattern-ext (l .p) (patternOf (packetShape bs)) (omega arith) (l .inv .output) (rw e at (l .inv .parents)) (rw e at (l .inv .axes)) (rw e at (l .inv .labels))
 
 pub pattern-in-spec : {M : Type 1} → statement M
-pattern-in-spec =
-    tie.close
-    (tie.spec
-    Inv-loop
-    μ-loop
-    shared-slice-read-t10
-    loop-holds
-    mul-p
-    add-p
-    shared-slice-read-p
-    element-write-p
-    mul-p-2
-    add-p-2
-    shared-slice-read-p-2
-    element-write-p-2
-    mul-half-at
-    add-half-at
-    half-at-requires
-    mul-p-3
-    element-write-p-3
-    add-k
-    loop-less
-    loop-again
-    returns)
+pattern-in-spec = tie.close (tie.spec Inv-loop μ-loop (λ c. omega arith) loop-holds (λ c. omega arith) (λ c. omega arith) (λ c. omega arith)
+    (λ c. omega arith) (λ c. omega arith) (λ c. omega arith) (λ c. omega arith) (λ c. omega arith) (λ c. omega arith) (λ c. omega arith)
+    (λ c κs. omega arith) (λ c. omega arith) (λ c. omega arith) (λ c. omega arith) (λ c. omega arith) loop-again returns)

@@ -57,61 +57,16 @@ Inv-loop out₀ p n field k₀ out k = Written (shapeOf p) out₀ k out
 abbrev μ-loop : tie.MeasureT-loop
 μ-loop out₀ p n field k₀ out k = n - k
 
-mul-field : tie.Need-mul-field Inv-loop μ-loop
-mul-field c = omega arith
-
-add-field : tie.Need-add-field Inv-loop μ-loop
-add-field c = omega arith
-
-cast-put-four : tie.Need-cast-put-four Inv-loop μ-loop
-cast-put-four c = omega arith
-
-cast-put-four-2 : tie.Need-cast-put-four-2 Inv-loop μ-loop
-cast-put-four-2 c = omega arith
-
-put-four-requires : tie.Need-put-four-requires Inv-loop μ-loop
-put-four-requires c κs = omega arith
-
 loop-holds : tie.Need-loop-holds Inv-loop μ-loop
 loop-holds c =
     let x = c .before .before in
     written-head (shapeOf (x .before .before .before .args .t1)) _ (now (x .before .before .before .args .out)) (x .put-four .ensures)
-
-mul-label : tie.Need-mul-label Inv-loop μ-loop
-mul-label c = omega arith
-
-element-copy-out-label : tie.Need-element-copy-out-label Inv-loop μ-loop
-element-copy-out-label c = omega arith
-
-mul-put-four : tie.Need-mul-put-four Inv-loop μ-loop
-mul-put-four c = omega arith
-
-add-put-four : tie.Need-add-put-four Inv-loop μ-loop
-add-put-four c = omega arith
-
-element-copy-out-put-four : tie.Need-element-copy-out-put-four Inv-loop μ-loop
-element-copy-out-put-four c = omega arith
-
-element-copy-out-put-four-2 : tie.Need-element-copy-out-put-four-2 Inv-loop μ-loop
-element-copy-out-put-four-2 c = omega arith
 
 cast-put-four-3 : tie.Need-cast-put-four-3 Inv-loop μ-loop
 cast-put-four-3 c =
     let p = c .before .before .before .before .before .before .before .before .before .before .before .args .t1 in
     let f : Fits w16 (getD (p .label) (c .before .before .before .before .before .loop .k) 0) = search needs in
     omega arith
-
-cast-put-four-4 : tie.Need-cast-put-four-4 Inv-loop μ-loop
-cast-put-four-4 c = omega arith
-
-put-four-requires-2 : tie.Need-put-four-requires-2 Inv-loop μ-loop
-put-four-requires-2 c κs = omega arith
-
-add-k : tie.Need-add-k Inv-loop μ-loop
-add-k c = omega arith
-
-loop-less : tie.Need-loop-less Inv-loop μ-loop
-loop-less c = omega arith
 
 loop-again : tie.Need-loop-again Inv-loop μ-loop
 unfolding stepBytes
@@ -120,9 +75,6 @@ loop-again c =
     let l = x .before .before .before .before .before .before .loop in
     let p = x .before .before .before .before .before .before .before .before .before .before .before .before .args .t1 in
     written-next (shapeOf p) _ (l .k) (l .out) _ (omega arith) (x .put-four2 .kept .0) (x .put-four2 .ensures) (l .inv)
-
-same-length : tie.Need-same-length Inv-loop μ-loop
-same-length c = omega arith
 
 returns : tie.Need-returns Inv-loop μ-loop
 returns c =
@@ -133,28 +85,6 @@ returns c =
     written-all (shapeOf (a .t1)) _ (now (a .out)) (l .out) (x .put-four .ensures) (rw e at (l .inv))
 
 pub put-pattern-spec : {M : Type 1} → statement M
-put-pattern-spec =
-    tie.close
-    (tie.spec
-    Inv-loop
-    μ-loop
-    mul-field
-    add-field
-    cast-put-four
-    cast-put-four-2
-    put-four-requires
-    loop-holds
-    mul-label
-    element-copy-out-label
-    mul-put-four
-    add-put-four
-    element-copy-out-put-four
-    element-copy-out-put-four-2
-    cast-put-four-3
-    cast-put-four-4
-    put-four-requires-2
-    add-k
-    loop-less
-    loop-again
-    same-length
-    returns)
+put-pattern-spec = tie.close (tie.spec Inv-loop μ-loop (λ c. omega arith) (λ c. omega arith) (λ c. omega arith) (λ c. omega arith)
+    (λ c κs. omega arith) loop-holds (λ c. omega arith) (λ c. omega arith) (λ c. omega arith) (λ c. omega arith) (λ c. omega arith) (λ c. omega arith)
+    cast-put-four-3 (λ c. omega arith) (λ c κs. omega arith) (λ c. omega arith) (λ c. omega arith) loop-again (λ c. omega arith) returns)

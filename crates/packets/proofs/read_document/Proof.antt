@@ -51,21 +51,6 @@ valid y =
     let k = y .before .before .check-document in
     subst (ChecksDocument (packetDocument (bytes x))) (y .enum-told .given .1) (subst (λ d. ChecksDocument d (k .result)) (fronts x) (k .ensures)) .0 .0
 
-slice-aggregate-read-nodes : tie.Need-slice-aggregate-read-nodes
-slice-aggregate-read-nodes c = search needs
-
-slice-aggregate-read-nodes-2 : tie.Need-slice-aggregate-read-nodes-2
-slice-aggregate-read-nodes-2 c = search needs
-
-read-nodes-requires : tie.Need-read-nodes-requires
-read-nodes-requires c κs = search needs
-
-enum-known-n : tie.Need-enum-known-n
-enum-known-n c = search needs
-
-enum-known-r : tie.Need-enum-known-r
-enum-known-r c = search needs
-
 returns : tie.Need-returns
 returns c =
     let d = c .before .before .before .before .before .read-nodes in
@@ -86,21 +71,12 @@ array-share-prefix-own-labels c = omega (arith, few (c .before .before), c .befo
 slice-aggregate-check-document-2 : tie.Need-slice-aggregate-check-document-2
 slice-aggregate-check-document-2 c = simp length-take (omega (arith, few (c .before .before .before), c .before .before .before .before .before .before .before .read-nodes .kept))
 
-check-document-requires : tie.Need-check-document-requires
-check-document-requires c κs = search needs
-
-enum-known-r-2 : tie.Need-enum-known-r-2
-enum-known-r-2 c = search needs
-
 returns-2 : tie.Need-returns-2
 returns-2 c =
     let k = c .before .before .before .check-document in
     let x = c .before .before .before .before .before .before .before in
     let v = subst (ChecksDocument (packetDocument (bytes x))) (c .before .r2 .given .1) (subst (λ d. ChecksDocument d (k .result)) (fronts x) (k .ensures)) in
     (document-rules-refuse (bytes x) _ _ (header x) (c .before .r2 .given .0 .0) (v .0), (refl, refl))
-
-enum-told : tie.Need-enum-told
-enum-told c = search needs
 
 returns-3 : tie.Need-returns-3
 returns-3 c =
@@ -114,27 +90,15 @@ returns-4 c =
     let x = counted y in
     (document-room-refuses (bytes x) _ _ (header x) (valid y) (λ w. omega (arith, nodes x .1 .0, w .1)), (refl, refl))
 
-slice-aggregate-copy : tie.Need-slice-aggregate-copy
-slice-aggregate-copy c = search needs
-
 copy-requires : tie.Need-copy-requires
 copy-requires c κs =
     let x = counted (c .before .before .before .before) in
     (omega (arith, few x, x .before .before .before .before .read-nodes .kept), omega arith, omega (arith, few x))
 
-slice-aggregate-copy-2 : tie.Need-slice-aggregate-copy-2
-slice-aggregate-copy-2 c = search needs
-
 copy-requires-2 : tie.Need-copy-requires-2
 copy-requires-2 c κs =
     let x = counted (c .before .before .before .before .before .before .before .before .before) in
     (omega (arith, few x, x .before .before .before .before .read-nodes .kept), omega arith, omega (arith, few x))
-
-same-length : tie.Need-same-length
-same-length c = search needs
-
-same-length-2 : tie.Need-same-length-2
-same-length-2 c = search needs
 
 returns-5 : tie.Need-returns-5
 returns-5 c =
@@ -154,29 +118,7 @@ returns-5 c =
     )
 
 pub read-document-spec : {M : Type 1} → statement M
-read-document-spec =
-    tie.close
-    (tie.spec
-    slice-aggregate-read-nodes
-    slice-aggregate-read-nodes-2
-    read-nodes-requires
-    enum-known-n
-    enum-known-r
-    returns
-    array-share-prefix-own-parents
-    slice-aggregate-check-document
-    array-share-prefix-own-labels
-    slice-aggregate-check-document-2
-    check-document-requires
-    enum-known-r-2
-    returns-2
-    enum-told
-    returns-3
-    returns-4
-    slice-aggregate-copy
-    copy-requires
-    slice-aggregate-copy-2
-    copy-requires-2
-    same-length
-    same-length-2
-    returns-5)
+read-document-spec = tie.close (tie.spec (λ c. search needs) (λ c. search needs) (λ c κs. search needs) (λ c. search needs) (λ c. search needs)
+    returns array-share-prefix-own-parents slice-aggregate-check-document array-share-prefix-own-labels slice-aggregate-check-document-2
+    (λ c κs. search needs) (λ c. search needs) returns-2 (λ c. search needs) returns-3 returns-4 (λ c. search needs) copy-requires (λ c. search needs)
+    copy-requires-2 (λ c. search needs) (λ c. search needs) returns-5)

@@ -22,15 +22,6 @@ entry x = x .before .before .before .before .before .before
 headed : (x : tie.After-n) → Headed (now (entry x .args .s)) 0 2048 (Count (x .n .given .0 .0))
 headed x = subst (Headed (now (entry x .args .s)) 0 2048) (x .n .given .1) (x .before .before .rows-in .ensures)
 
-rows-in-requires : tie.Need-rows-in-requires
-rows-in-requires c κs = search needs
-
-enum-known-n : tie.Need-enum-known-n
-enum-known-n c = search needs
-
-enum-known-r : tie.Need-enum-known-r
-enum-known-r c = search needs
-
 returns : tie.Need-returns
 returns c =
     let a = c .before .before .before .before .before .before .before .args in
@@ -59,12 +50,6 @@ decode-requires-2 c κs =
     let z = h .0 .1 .1 .0 in
     (omega arith, omega (arith, z .2, z .3, h .1), omega arith, omega (arith, z .3, z .4, h .1))
 
-same-length : tie.Need-same-length
-same-length c = search needs
-
-same-length-2 : tie.Need-same-length-2
-same-length-2 c = search needs
-
 returns-4 : tie.Need-returns-4
 unfolding packetDocument
 returns-4 c =
@@ -85,17 +70,5 @@ returns-4 c =
     )
 
 pub read-nodes-spec : {M : Type 1} → statement M
-read-nodes-spec =
-    tie.close
-    (tie.spec
-    rows-in-requires
-    enum-known-n
-    enum-known-r
-    returns
-    returns-2
-    returns-3
-    decode-requires
-    decode-requires-2
-    same-length
-    same-length-2
-    returns-4)
+read-nodes-spec = tie.close (tie.spec (λ c κs. search needs) (λ c. search needs) (λ c. search needs) returns returns-2 returns-3 decode-requires
+    decode-requires-2 (λ c. search needs) (λ c. search needs) returns-4)

@@ -17,18 +17,6 @@ entry x = x .before .before .before .before
 headed : (x : tie.After-n) → Headed (now (entry x .args .s)) 1 64 (Count (x .n .given .0 .0))
 headed x = subst (Headed (now (entry x .args .s)) 1 64) (x .n .given .1) (x .before .before .rows-in .ensures)
 
-rows-in-requires : tie.Need-rows-in-requires
-rows-in-requires c κs = search needs
-
-enum-known-n : tie.Need-enum-known-n
-enum-known-n c = search needs
-
-enum-known-r : tie.Need-enum-known-r
-enum-known-r c = search needs
-
-no-pattern-requires : tie.Need-no-pattern-requires
-no-pattern-requires c κs = search needs
-
 returns : tie.Need-returns
 returns c =
     let a = c .before .before .before .before .before .before .args in
@@ -40,18 +28,6 @@ pattern-in-requires c κs =
     let h = headed (c .before) in
     let z = h .0 .1 .1 .0 in
     (omega (arith, z .2, z .3, h .1), omega (arith, z .3, z .4, h .1), h .1)
-
-check-pattern-requires : tie.Need-check-pattern-requires
-check-pattern-requires c κs = search needs
-
-enum-told : tie.Need-enum-told
-enum-told c = search needs
-
-enum-known-r-2 : tie.Need-enum-known-r-2
-enum-known-r-2 c = search needs
-
-no-pattern-requires-2 : tie.Need-no-pattern-requires-2
-no-pattern-requires-2 c κs = search needs
 
 returns-2 : tie.Need-returns-2
 returns-2 c =
@@ -71,18 +47,5 @@ returns-3 c =
     (pattern-rules-refuse (now (entry x .args .s)) (q .pattern-in .result) (q .pattern-in .ensures) (headed x .0) (y .r2 .given .0 .0) (v .0), c .no-pattern2 .ensures)
 
 pub read-pattern-spec : {M : Type 1} → statement M
-read-pattern-spec =
-    tie.close
-    (tie.spec
-    rows-in-requires
-    enum-known-n
-    enum-known-r
-    no-pattern-requires
-    returns
-    pattern-in-requires
-    check-pattern-requires
-    enum-told
-    enum-known-r-2
-    no-pattern-requires-2
-    returns-2
-    returns-3)
+read-pattern-spec = tie.close (tie.spec (λ c κs. search needs) (λ c. search needs) (λ c. search needs) (λ c κs. search needs) returns
+    pattern-in-requires (λ c κs. search needs) (λ c. search needs) (λ c. search needs) (λ c κs. search needs) returns-2 returns-3)

@@ -18,17 +18,8 @@ unsized a b h = (inr (a, inr (b, inl (h, refl))), tt)
 returns : tie.Need-returns
 returns c = (inl ((λ h. omega arith), refl), tt)
 
-shared-slice-read-if2 : tie.Need-shared-slice-read-if2
-shared-slice-read-if2 c = search needs
-
 returns-2 : tie.Need-returns-2
 returns-2 c = (inr (omega arith, inl ((λ h. omega arith), refl)), tt)
-
-half-at-requires : tie.Need-half-at-requires
-half-at-requires c κs = search needs
-
-cast-field : tie.Need-cast-field
-cast-field c = search needs
 
 returns-3 : tie.Need-returns-3
 returns-3 c = unsized (omega arith) (omega arith) (λ z. omega arith)
@@ -39,9 +30,6 @@ returns-4 c = unsized (omega arith) (omega arith) (λ z. omega arith)
 returns-5 : tie.Need-returns-5
 returns-5 c = unsized (omega arith) (omega arith) (λ z. omega arith)
 
-add-if6 : tie.Need-add-if6
-add-if6 c = search needs
-
 returns-6 : tie.Need-returns-6
 returns-6 c = unsized (omega arith) (omega arith) (λ z. omega arith)
 
@@ -49,17 +37,5 @@ returns-7 : tie.Need-returns-7
 returns-7 c = ((omega arith, (omega arith, ((c .before .before .before .before .half-at .result / 4, omega arith, omega arith, omega arith, omega arith), tt))), omega arith)
 
 pub rows-in-spec : {M : Type 1} → statement M
-rows-in-spec =
-    tie.close
-    (tie.spec
-    returns
-    shared-slice-read-if2
-    returns-2
-    half-at-requires
-    cast-field
-    returns-3
-    returns-4
-    returns-5
-    add-if6
-    returns-6
-    returns-7)
+rows-in-spec = tie.close (tie.spec returns (λ c. search needs) returns-2 (λ c κs. search needs) (λ c. search needs) returns-3 returns-4 returns-5
+    (λ c. search needs) returns-6 returns-7)

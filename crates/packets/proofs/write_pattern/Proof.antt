@@ -8,12 +8,6 @@ use borrow.Author.Needs.{needs}
 use Rattle.packets.proofs.write_pattern.Statement.{statement}
 use Rattle.packets.proofs.write_pattern.Tie as tie
 
-check-pattern-requires : tie.Need-check-pattern-requires
-check-pattern-requires c κs = search needs
-
-enum-known-r : tie.Need-enum-known-r
-enum-known-r c = search needs
-
 -- past the first test the pattern obeys the rules
 valid : (x : tie.After-enum-told) → ValidPattern (x .before .before .before .before .args .p)
 valid x = subst (ChecksPattern (x .before .before .before .before .args .p)) (x .enum-told .given .1) (x .before .before .check-pattern .ensures) .0 .0
@@ -23,9 +17,6 @@ returns c =
     let k = c .before .before .before in
     let v = subst (ChecksPattern (k .before .before .args .p)) (c .before .r .given .1) (k .check-pattern .ensures) in
     (⊎-elim inl (λ w. absurd (w .1)) (v .0), refl)
-
-enum-told : tie.Need-enum-told
-enum-told c = search needs
 
 mul-size : tie.Need-mul-size
 mul-size c = omega (arith, valid (c .before) .few)
@@ -42,26 +33,11 @@ returns-2 c = (inr (valid (c .before .before), inl ((λ h. omega arith), refl)),
 put-pattern-requires : tie.Need-put-pattern-requires
 put-pattern-requires c κs = (valid (c .before .before .before) .few, omega arith)
 
-same-length : tie.Need-same-length
-same-length c = search needs
-
 returns-3 : tie.Need-returns-3
 returns-3 c =
     let x = c .before .before in
     ((valid (x .before .before .before .before), (omega arith, tt)), (refl, x .put-pattern .ensures))
 
 pub write-pattern-spec : {M : Type 1} → statement M
-write-pattern-spec =
-    tie.close
-    (tie.spec
-    check-pattern-requires
-    enum-known-r
-    returns
-    enum-told
-    mul-size
-    add-size
-    add-size-2
-    returns-2
-    put-pattern-requires
-    same-length
-    returns-3)
+write-pattern-spec = tie.close (tie.spec (λ c κs. search needs) (λ c. search needs) returns (λ c. search needs) mul-size add-size add-size-2 returns-2
+    put-pattern-requires (λ c. search needs) returns-3)

@@ -47,9 +47,6 @@ up-query x = let p = x .before .before .before .before .before .pre .0 in omega 
 up-view : (x : tie.In-loop Inv-loop μ-loop) → getD (x .before .before .before .before .before .args .t2 .parent) (x .before .loop .t) 0 < 64
 up-view x = omega (arith, up-less x, view-few (x .before))
 
-cast-t : tie.Need-cast-t Inv-loop μ-loop
-cast-t c = search needs
-
 mul-if1 : tie.Need-mul-if1 Inv-loop μ-loop
 mul-if1 c = record { fits = omega (arith, first-query c) }
 
@@ -123,32 +120,6 @@ returns-4 c =
     (λ z. sym (x .before .if1 .left), λ E w. tells-eq _ _ .test (axes-agree _ _ E (s .pre .0 .0) (s .pre .0 .1) w (x .loop .inv)))
 
 pub agree-spec : {M : Type 1} → statement M
-agree-spec =
-    tie.close
-    (tie.spec
-    Inv-loop
-    μ-loop
-    cast-t
-    mul-if1
-    element-copy-out-if1
-    mul-if1-2
-    element-copy-out-if1-2
-    returns
-    loop-holds
-    element-copy-out-if2
-    element-copy-out-if2-2
-    returns-2
-    element-copy-out-s
-    cast-s
-    element-copy-out-t
-    cast-t-2
-    mul-if3
-    element-copy-out-if3
-    mul-if3-2
-    element-copy-out-if3-2
-    returns-3
-    loop-less
-    loop-again
-    element-copy-out-result
-    element-copy-out-result-2
-    returns-4)
+agree-spec = tie.close (tie.spec Inv-loop μ-loop (λ c. search needs) mul-if1 element-copy-out-if1 mul-if1-2 element-copy-out-if1-2 returns loop-holds
+    element-copy-out-if2 element-copy-out-if2-2 returns-2 element-copy-out-s cast-s element-copy-out-t cast-t-2 mul-if3 element-copy-out-if3 mul-if3-2
+    element-copy-out-if3-2 returns-3 loop-less loop-again element-copy-out-result element-copy-out-result-2 returns-4)

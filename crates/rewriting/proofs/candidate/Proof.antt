@@ -34,15 +34,6 @@ placed x =
 above : (x : tie.After-main-step) → From (shapeOf (entry x .args .q) .tree) (x .main-step .result) (shapeOf (entry x .args .q) .output)
 above x = subst (λ s. From (shapeOf (entry x .args .q) .tree) s (shapeOf (entry x .args .q) .output)) (sym (placed x)) (cut-on-path (entry x .pre .0) (entry x .pre .1) (long (x .before)) .0)
 
-no-pattern-requires : tie.Need-no-pattern-requires
-no-pattern-requires c κs = search needs
-
-main-length-requires : tie.Need-main-length-requires
-main-length-requires c κs = search needs
-
-main-length-requires-2 : tie.Need-main-length-requires-2
-main-length-requires-2 c κs = search needs
-
 returns : tie.Need-returns
 returns c = (λ b. absurd b, λ E k s. omega (arith, k .long))
 
@@ -74,15 +65,5 @@ returns-3 c =
     )
 
 pub candidate-spec : {M : Type 1} → statement M
-candidate-spec =
-    tie.close
-    (tie.spec
-    no-pattern-requires
-    main-length-requires
-    main-length-requires-2
-    returns
-    main-step-requires
-    agree-requires
-    returns-2
-    cut-requires
-    returns-3)
+candidate-spec = tie.close (tie.spec (λ c κs. search needs) (λ c κs. search needs) (λ c κs. search needs) returns main-step-requires agree-requires
+    returns-2 cut-requires returns-3)

@@ -44,20 +44,11 @@ cast-less c = omega (arith, low (c .before) .0)
 sub-t13 : tie.Need-sub-t13 Inv-loop μ-loop
 sub-t13 c = low (c .before) .1
 
-element-write-p : tie.Need-element-write-p Inv-loop μ-loop
-element-write-p c = omega arith
-
-element-write-p-2 : tie.Need-element-write-p-2 Inv-loop μ-loop
-element-write-p-2 c = omega arith
-
 mul-p : tie.Need-mul-p Inv-loop μ-loop
 mul-p c = omega (arith, low (c .before) .0)
 
 element-copy-out-p : tie.Need-element-copy-out-p Inv-loop μ-loop
 element-copy-out-p c = omega (arith, low (c .before) .0)
-
-element-write-p-3 : tie.Need-element-write-p-3 Inv-loop μ-loop
-element-write-p-3 c = omega arith
 
 loop-holds : tie.Need-loop-holds Inv-loop μ-loop
 unfolding tableOf cutShape
@@ -107,9 +98,6 @@ element-write-p-6 c = omega (arith, late (c .before .before .before) .0)
 add-t : tie.Need-add-t Inv-loop μ-loop
 add-t c = omega (arith, late (c .before .before .before) .0)
 
-loop-less : tie.Need-loop-less Inv-loop μ-loop
-loop-less c = omega arith
-
 loop-again : tie.Need-loop-again Inv-loop μ-loop
 unfolding cutShape
 loop-again c =
@@ -126,33 +114,6 @@ returns c =
     (cutShape (shapeOf (a .args .t1)) (a .args .c), cut-is (a .args .t1) (a .pre .0) (a .args .c) (a .pre .1), filled-all (c .before .loop .inv .1) (omega (arith, sized x)))
 
 pub cut-spec : {M : Type 1} → statement M
-cut-spec =
-    tie.close
-    (tie.spec
-    Inv-loop
-    μ-loop
-    cut-size-requires
-    cast-less
-    sub-t13
-    element-write-p
-    element-write-p-2
-    mul-p
-    element-copy-out-p
-    element-write-p-3
-    loop-holds
-    add-p
-    element-copy-out-p-2
-    sub-p
-    element-write-p-4
-    add-p-2
-    element-copy-out-p-3
-    element-write-p-5
-    add-p-3
-    mul-p-2
-    element-copy-out-p-4
-    mul-p-3
-    element-write-p-6
-    add-t
-    loop-less
-    loop-again
-    returns)
+cut-spec = tie.close (tie.spec Inv-loop μ-loop cut-size-requires cast-less sub-t13 (λ c. omega arith) (λ c. omega arith) mul-p element-copy-out-p
+    (λ c. omega arith) loop-holds add-p element-copy-out-p-2 sub-p element-write-p-4 add-p-2 element-copy-out-p-3 element-write-p-5 add-p-3 mul-p-2
+    element-copy-out-p-4 mul-p-3 element-write-p-6 add-t (λ c. omega arith) loop-again returns)

@@ -13,53 +13,18 @@ Inv-loop c p n u₀ u = Taken (shapeOf p .tree) c u
 abbrev μ-loop : tie.MeasureT-loop
 μ-loop c p n u₀ u = n - u
 
-add-u : tie.Need-add-u Inv-loop μ-loop
-add-u c = search needs
-
 loop-holds : tie.Need-loop-holds Inv-loop μ-loop
 loop-holds c = taken-one (shapeOf (c .args .t1) .tree) (c .args .c) (c .pre .1)
-
-element-copy-out-if1 : tie.Need-element-copy-out-if1 Inv-loop μ-loop
-element-copy-out-if1 c = search needs
-
-cast-if1 : tie.Need-cast-if1 Inv-loop μ-loop
-cast-if1 c = search needs
-
-sub-result : tie.Need-sub-result Inv-loop μ-loop
-sub-result c = search needs
 
 returns : tie.Need-returns Inv-loop μ-loop
 returns c = taken-stop (shape-ordered (c .before .before .before .before .pre .0)) (c .before .before .before .loop .inv) (c .if1 .taken)
 
-add-u-2 : tie.Need-add-u-2 Inv-loop μ-loop
-add-u-2 c = search needs
-
-loop-less : tie.Need-loop-less Inv-loop μ-loop
-loop-less c = search needs
-
 loop-again : tie.Need-loop-again Inv-loop μ-loop
 loop-again c = taken-next (shape-ordered (c .before .before .before .before .pre .0)) (c .before .before .before .loop .inv) (c .before .before .loop-test .taken) (c .if1 .left)
-
-sub-result-2 : tie.Need-sub-result-2 Inv-loop μ-loop
-sub-result-2 c = search needs
 
 returns-2 : tie.Need-returns-2 Inv-loop μ-loop
 returns-2 c = taken-end (shape-ordered (c .before .before .pre .0)) (c .before .loop .inv) (c .loop-test .left)
 
 pub cut-size-spec : {M : Type 1} → statement M
-cut-size-spec =
-    tie.close
-    (tie.spec
-    Inv-loop
-    μ-loop
-    add-u
-    loop-holds
-    element-copy-out-if1
-    cast-if1
-    sub-result
-    returns
-    add-u-2
-    loop-less
-    loop-again
-    sub-result-2
-    returns-2)
+cut-size-spec = tie.close (tie.spec Inv-loop μ-loop (λ c. search needs) loop-holds (λ c. search needs) (λ c. search needs) (λ c. search needs) returns
+    (λ c. search needs) (λ c. search needs) loop-again (λ c. search needs) returns-2)

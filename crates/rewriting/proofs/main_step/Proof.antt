@@ -14,23 +14,8 @@ Inv-loop up p s₀ k₀ s k = (k ≤ up) × Climbed (shapeOf p) s k
 abbrev μ-loop : tie.MeasureT-loop
 μ-loop up p s₀ k₀ s k = up - k
 
-cast-s : tie.Need-cast-s Inv-loop μ-loop
-cast-s c = search needs
-
 loop-holds : tie.Need-loop-holds Inv-loop μ-loop
 loop-holds c = (omega arith, climbed-none (shapeOf (c .args .t1)))
-
-element-copy-out-s : tie.Need-element-copy-out-s Inv-loop μ-loop
-element-copy-out-s c = search needs
-
-cast-s-2 : tie.Need-cast-s-2 Inv-loop μ-loop
-cast-s-2 c = search needs
-
-add-k : tie.Need-add-k Inv-loop μ-loop
-add-k c = search needs
-
-loop-less : tie.Need-loop-less Inv-loop μ-loop
-loop-less c = search needs
 
 loop-again : tie.Need-loop-again Inv-loop μ-loop
 loop-again c =
@@ -45,16 +30,5 @@ returns c =
     main-at v (c .before .loop .s) _ (r .from) (omega (arith, r .deep, main-length v))
 
 pub main-step-spec : {M : Type 1} → statement M
-main-step-spec =
-    tie.close
-    (tie.spec
-    Inv-loop
-    μ-loop
-    cast-s
-    loop-holds
-    element-copy-out-s
-    cast-s-2
-    add-k
-    loop-less
-    loop-again
-    returns)
+main-step-spec = tie.close (tie.spec Inv-loop μ-loop (λ c. search needs) loop-holds (λ c. search needs) (λ c. search needs) (λ c. search needs)
+    (λ c. search needs) loop-again returns)

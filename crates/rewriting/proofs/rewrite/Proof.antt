@@ -55,33 +55,12 @@ joinable x =
     let p = passes y in
     candidate-joinable (entry y .args .q) (entry y .args .v) (p .0) (p .1 .0) (there x) (p .1 .1 .0 .0) (p .1 .1 .0 .1)
 
-check-pattern-requires : tie.Need-check-pattern-requires
-check-pattern-requires c κs = search needs
-
-enum-known-r : tie.Need-enum-known-r
-enum-known-r c = search needs
-
-beside-requires : tie.Need-beside-requires
-beside-requires c κs = search needs
-
 returns : tie.Need-returns
 returns c =
     let k = c .before .before .before .before in
     let a = k .before .args in
     let v = subst (ChecksPattern (a .q)) (c .before .before .r .given .1) (k .check-pattern .ensures) in
     said (a .q) (a .v) (rewriting.Refused (c .before .before .r .given .0 .0)) (c .beside .result) (c .beside .ensures) (⊎-elim inl (λ w. absurd (w .1)) (v .0), refl)
-
-enum-told : tie.Need-enum-told
-enum-told c = search needs
-
-check-pattern-requires-2 : tie.Need-check-pattern-requires-2
-check-pattern-requires-2 c κs = search needs
-
-enum-known-r-2 : tie.Need-enum-known-r-2
-enum-known-r-2 c = search needs
-
-beside-requires-2 : tie.Need-beside-requires-2
-beside-requires-2 c κs = search needs
 
 returns-2 : tie.Need-returns-2
 returns-2 c =
@@ -91,21 +70,12 @@ returns-2 c =
     said (a .q) (a .v) (rewriting.Refused (c .before .before .r2 .given .0 .0)) (c .beside2 .result) (c .beside2 .ensures)
     (inr (query (k .before), ⊎-elim inl (λ w. absurd (w .1)) (v .0)), refl)
 
-enum-told-2 : tie.Need-enum-told-2
-enum-told-2 c = search needs
-
-beside-requires-3 : tie.Need-beside-requires-3
-beside-requires-3 c κs = search needs
-
 returns-3 : tie.Need-returns-3
 returns-3 c =
     let x = c .before .before .before in
     let a = x .before .before .before .before .before .before .args in
     said (a .q) (a .v) (rewriting.Refused TooLarge) (c .beside3 .result) (c .beside3 .ensures)
     (inr (query (x .before .before .before), inr (view x, inl (λ h. omega (arith, h .0), refl))), refl)
-
-beside-requires-4 : tie.Need-beside-requires-4
-beside-requires-4 c κs = search needs
 
 returns-4 : tie.Need-returns-4
 returns-4 c =
@@ -117,9 +87,6 @@ returns-4 c =
 candidate-requires : tie.Need-candidate-requires
 candidate-requires c κs = let p = passes c in (p .0, p .1 .0)
 
-beside-requires-5 : tie.Need-beside-requires-5
-beside-requires-5 c κs = search needs
-
 returns-5 : tie.Need-returns-5
 returns-5 c =
     let f = c .before .before .before .candidate in
@@ -129,9 +96,6 @@ returns-5 c =
 
 serves-requires : tie.Need-serves-requires
 serves-requires c κs = (passes (c .before .before .before .before) .0, joinable (c .before))
-
-beside-requires-6 : tie.Need-beside-requires-6
-beside-requires-6 c κs = search needs
 
 returns-6 : tie.Need-returns-6
 returns-6 c =
@@ -152,27 +116,6 @@ returns-7 c =
     (passes (y .before .before .before), there y, record { joinable = joinable y; equal = w .ensures .0 (passed (w .result) (c .if4 .left)) })
 
 pub rewrite-spec : {M : Type 1} → statement M
-rewrite-spec =
-    tie.close
-    (tie.spec
-    check-pattern-requires
-    enum-known-r
-    beside-requires
-    returns
-    enum-told
-    check-pattern-requires-2
-    enum-known-r-2
-    beside-requires-2
-    returns-2
-    enum-told-2
-    beside-requires-3
-    returns-3
-    beside-requires-4
-    returns-4
-    candidate-requires
-    beside-requires-5
-    returns-5
-    serves-requires
-    beside-requires-6
-    returns-6
-    returns-7)
+rewrite-spec = tie.close (tie.spec (λ c κs. search needs) (λ c. search needs) (λ c κs. search needs) returns (λ c. search needs)
+    (λ c κs. search needs) (λ c. search needs) (λ c κs. search needs) returns-2 (λ c. search needs) (λ c κs. search needs) returns-3
+    (λ c κs. search needs) returns-4 candidate-requires (λ c κs. search needs) returns-5 serves-requires (λ c κs. search needs) returns-6 returns-7)

@@ -28,21 +28,6 @@ told x r e =
     let a = x .before .before .before .args in
     subst (λ p. DecidesEquality (a .q) p r) (joined (x .before .before)) (subst (DecidesEquality (a .q) (x .before .before .join .result .pattern)) e (x .equal .ensures))
 
-join-requires : tie.Need-join-requires
-join-requires c κs = search needs
-
-equal-requires : tie.Need-equal-requires
-equal-requires c κs = search needs
-
-enum-told : tie.Need-enum-told
-enum-told c = search needs
-
-enum-told-2 : tie.Need-enum-told-2
-enum-told-2 c = search needs
-
-enum-told-3 : tie.Need-enum-told-3
-enum-told-3 c = search needs
-
 returns : tie.Need-returns
 returns c = (λ t. equal-sym (told (c .before .before) _ (c .enum-told .given .1) .1), λ h. tt)
 
@@ -58,5 +43,5 @@ returns-3 c =
     )
 
 pub serves-spec : {M : Type 1} → statement M
-serves-spec =
-    tie.close (tie.spec join-requires equal-requires enum-told enum-told-2 enum-told-3 returns returns-2 returns-3)
+serves-spec = tie.close (tie.spec (λ c κs. search needs) (λ c κs. search needs) (λ c. search needs) (λ c. search needs) (λ c. search needs) returns
+    returns-2 returns-3)

@@ -5,38 +5,14 @@ use borrow.Author.Needs.{needs}
 use Rattle.seven.proofs.put_node.Statement.{statement}
 use Rattle.seven.proofs.put_node.Tie as tie
 
-sub-if2 : tie.Need-sub-if2
-sub-if2 c = search needs
-
-cast-packet : tie.Need-cast-packet
-cast-packet c = search needs
-
-slice-write-packet : tie.Need-slice-write-packet
-slice-write-packet c = search needs
-
-cast-packet-2 : tie.Need-cast-packet-2
-cast-packet-2 c = search needs
-
-add-packet : tie.Need-add-packet
-add-packet c = search needs
-
 slice-write-packet-2 : tie.Need-slice-write-packet-2
 slice-write-packet-2 c = simp length-set (omega arith)
-
-add-packet-2 : tie.Need-add-packet-2
-add-packet-2 c = search needs
 
 slice-write-packet-3 : tie.Need-slice-write-packet-3
 slice-write-packet-3 c = simp length-set (omega arith)
 
-add-packet-3 : tie.Need-add-packet-3
-add-packet-3 c = search needs
-
 slice-write-packet-4 : tie.Need-slice-write-packet-4
 slice-write-packet-4 c = simp length-set (omega arith)
-
-same-length : tie.Need-same-length
-same-length c = search needs
 
 returns : tie.Need-returns
 returns c = search needs
@@ -48,20 +24,6 @@ returns-3 : tie.Need-returns-3
 returns-3 c = search needs
 
 pub put-node-spec : {M : Type 1} → statement M
-put-node-spec =
-    tie.close
-    (tie.spec
-    sub-if2
-    cast-packet
-    slice-write-packet
-    cast-packet-2
-    add-packet
-    slice-write-packet-2
-    add-packet-2
-    slice-write-packet-3
-    add-packet-3
-    slice-write-packet-4
-    same-length
-    returns
-    returns-2
+put-node-spec = tie.close (tie.spec (λ c. search needs) (λ c. search needs) (λ c. search needs) (λ c. search needs) (λ c. search needs)
+    slice-write-packet-2 (λ c. search needs) slice-write-packet-3 (λ c. search needs) slice-write-packet-4 (λ c. search needs) returns returns-2
     returns-3)

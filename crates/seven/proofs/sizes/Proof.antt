@@ -5,131 +5,22 @@ use borrow.Author.Needs.{needs}
 use Rattle.seven.proofs.sizes.Statement.{statement}
 use Rattle.seven.proofs.sizes.Tie as tie
 
-slice-aggregate-read-pattern : tie.Need-slice-aggregate-read-pattern
-slice-aggregate-read-pattern c = search needs
-
-read-pattern-requires : tie.Need-read-pattern-requires
-read-pattern-requires c κs = search needs
-
-slice-aggregate-chain : tie.Need-slice-aggregate-chain
-slice-aggregate-chain c = search needs
-
-chain-requires : tie.Need-chain-requires
-chain-requires c κs = search needs
-
-slice-aggregate-ones : tie.Need-slice-aggregate-ones
-slice-aggregate-ones c = search needs
-
-ones-requires : tie.Need-ones-requires
-ones-requires c κs = search needs
-
-slice-aggregate-say : tie.Need-slice-aggregate-say
-slice-aggregate-say c = search needs
-
-say-requires : tie.Need-say-requires
-say-requires c κs = search needs
-
-array-share-prefix-parents : tie.Need-array-share-prefix-parents
-array-share-prefix-parents c = search needs
-
 slice-aggregate-answers : tie.Need-slice-aggregate-answers
 slice-aggregate-answers c = simp length-take (omega (arith, c .before .before .before .before .before .before .before .chain .kept))
-
-array-share-prefix-labels : tie.Need-array-share-prefix-labels
-array-share-prefix-labels c = search needs
 
 slice-aggregate-answers-2 : tie.Need-slice-aggregate-answers-2
 slice-aggregate-answers-2 c = simp length-take (omega (arith, c .before .before .before .before .before .ones .kept))
 
-slice-aggregate-answers-3 : tie.Need-slice-aggregate-answers-3
-slice-aggregate-answers-3 c = search needs
-
-slice-aggregate-answers-4 : tie.Need-slice-aggregate-answers-4
-slice-aggregate-answers-4 c = search needs
-
-answers-requires : tie.Need-answers-requires
-answers-requires c κs = search needs
-
-say-counted-requires : tie.Need-say-counted-requires
-say-counted-requires c κs = search needs
-
-slice-aggregate-put-header : tie.Need-slice-aggregate-put-header
-slice-aggregate-put-header c = search needs
-
-put-header-requires : tie.Need-put-header-requires
-put-header-requires c κs = search needs
-
-slice-aggregate-put-chain : tie.Need-slice-aggregate-put-chain
-slice-aggregate-put-chain c = search needs
-
-put-chain-requires : tie.Need-put-chain-requires
-put-chain-requires c κs = search needs
-
-slice-aggregate-say-2 : tie.Need-slice-aggregate-say-2
-slice-aggregate-say-2 c = search needs
-
-say-requires-2 : tie.Need-say-requires-2
-say-requires-2 c κs = search needs
-
-mul-packet : tie.Need-mul-packet
-mul-packet c = search needs
-
-add-packet : tie.Need-add-packet
-add-packet c = search needs
-
-array-share-prefix-packet : tie.Need-array-share-prefix-packet
-array-share-prefix-packet c = search needs
-
 slice-aggregate-read-document : tie.Need-slice-aggregate-read-document
 slice-aggregate-read-document c = simp length-take (omega (arith, c .before .before .before .before .put-chain .kept, c .before .before .before .before .before .before .before .put-header .kept))
-
-slice-aggregate-read-document-2 : tie.Need-slice-aggregate-read-document-2
-slice-aggregate-read-document-2 c = search needs
-
-slice-aggregate-read-document-3 : tie.Need-slice-aggregate-read-document-3
-slice-aggregate-read-document-3 c = search needs
-
-read-document-requires : tie.Need-read-document-requires
-read-document-requires c κs = search needs
-
-say-counted-requires-2 : tie.Need-say-counted-requires-2
-say-counted-requires-2 c κs = search needs
 
 returns : tie.Need-returns
 returns c = search needs
 
 pub sizes-spec : {M : Type 1} → statement M
-sizes-spec =
-    tie.close
-    (tie.spec
-    slice-aggregate-read-pattern
-    read-pattern-requires
-    slice-aggregate-chain
-    chain-requires
-    slice-aggregate-ones
-    ones-requires
-    slice-aggregate-say
-    say-requires
-    array-share-prefix-parents
-    slice-aggregate-answers
-    array-share-prefix-labels
-    slice-aggregate-answers-2
-    slice-aggregate-answers-3
-    slice-aggregate-answers-4
-    answers-requires
-    say-counted-requires
-    slice-aggregate-put-header
-    put-header-requires
-    slice-aggregate-put-chain
-    put-chain-requires
-    slice-aggregate-say-2
-    say-requires-2
-    mul-packet
-    add-packet
-    array-share-prefix-packet
-    slice-aggregate-read-document
-    slice-aggregate-read-document-2
-    slice-aggregate-read-document-3
-    read-document-requires
-    say-counted-requires-2
-    returns)
+sizes-spec = tie.close (tie.spec (λ c. search needs) (λ c κs. search needs) (λ c. search needs) (λ c κs. search needs) (λ c. search needs)
+    (λ c κs. search needs) (λ c. search needs) (λ c κs. search needs) (λ c. search needs) slice-aggregate-answers (λ c. search needs)
+    slice-aggregate-answers-2 (λ c. search needs) (λ c. search needs) (λ c κs. search needs) (λ c κs. search needs) (λ c. search needs)
+    (λ c κs. search needs) (λ c. search needs) (λ c κs. search needs) (λ c. search needs) (λ c κs. search needs) (λ c. search needs)
+    (λ c. search needs) (λ c. search needs) slice-aggregate-read-document (λ c. search needs) (λ c. search needs) (λ c κs. search needs)
+    (λ c κs. search needs) returns)

@@ -4,18 +4,11 @@ use borrow.Author.Needs.{needs}
 use Rattle.station.proofs.nishkavel_answers.Statement.{statement}
 use Rattle.station.proofs.nishkavel_answers.Tie as tie
 
-answer-packets-requires : tie.Need-answer-packets-requires
-answer-packets-requires c κs = search needs
-
 number-of-requires : tie.Need-number-of-requires
 number-of-requires c κs = answers-small _ _ _ _ _ (c .before .before .answer-packets .ensures)
-
-same-length : tie.Need-same-length
-same-length c = search needs
 
 returns : tie.Need-returns
 returns c = search needs
 
 pub nishkavel-answers-spec : {M : Type 1} → statement M
-nishkavel-answers-spec =
-    tie.close (tie.spec answer-packets-requires number-of-requires same-length returns)
+nishkavel-answers-spec = tie.close (tie.spec (λ c κs. search needs) number-of-requires (λ c. search needs) returns)

@@ -4,18 +4,11 @@ use borrow.Author.Needs.{needs}
 use Rattle.station.proofs.nishkavel_contained.Statement.{statement}
 use Rattle.station.proofs.nishkavel_contained.Tie as tie
 
-contain-packets-requires : tie.Need-contain-packets-requires
-contain-packets-requires c κs = search needs
-
 number-of-requires : tie.Need-number-of-requires
 number-of-requires c κs = contains-small _ _ _ _ _ (c .before .before .contain-packets .ensures)
-
-same-length : tie.Need-same-length
-same-length c = search needs
 
 returns : tie.Need-returns
 returns c = search needs
 
 pub nishkavel-contained-spec : {M : Type 1} → statement M
-nishkavel-contained-spec =
-    tie.close (tie.spec contain-packets-requires number-of-requires same-length returns)
+nishkavel-contained-spec = tie.close (tie.spec (λ c κs. search needs) number-of-requires (λ c. search needs) returns)

@@ -4,18 +4,11 @@ use borrow.Author.Needs.{needs}
 use Rattle.station.proofs.nishkavel_copy_pattern.Statement.{statement}
 use Rattle.station.proofs.nishkavel_copy_pattern.Tie as tie
 
-copy-packet-requires : tie.Need-copy-packet-requires
-copy-packet-requires c κs = search needs
-
 number-of-requires : tie.Need-number-of-requires
 number-of-requires c κs = copies-small _ _ _ _ (c .before .before .copy-packet .ensures)
-
-same-length : tie.Need-same-length
-same-length c = search needs
 
 returns : tie.Need-returns
 returns c = search needs
 
 pub nishkavel-copy-pattern-spec : {M : Type 1} → statement M
-nishkavel-copy-pattern-spec =
-    tie.close (tie.spec copy-packet-requires number-of-requires same-length returns)
+nishkavel-copy-pattern-spec = tie.close (tie.spec (λ c κs. search needs) number-of-requires (λ c. search needs) returns)

@@ -4,18 +4,11 @@ use borrow.Author.Needs.{needs}
 use Rattle.station.proofs.nishkavel_join.Statement.{statement}
 use Rattle.station.proofs.nishkavel_join.Tie as tie
 
-join-packets-requires : tie.Need-join-packets-requires
-join-packets-requires c κs = search needs
-
 number-of-requires : tie.Need-number-of-requires
 number-of-requires c κs = joins-small _ _ _ _ _ (c .before .before .join-packets .ensures)
-
-same-length : tie.Need-same-length
-same-length c = search needs
 
 returns : tie.Need-returns
 returns c = search needs
 
 pub nishkavel-join-spec : {M : Type 1} → statement M
-nishkavel-join-spec =
-    tie.close (tie.spec join-packets-requires number-of-requires same-length returns)
+nishkavel-join-spec = tie.close (tie.spec (λ c κs. search needs) number-of-requires (λ c. search needs) returns)

@@ -4,21 +4,11 @@ use borrow.Author.Needs.{needs}
 use Rattle.station.proofs.nishkavel_list_started.Statement.{statement}
 use Rattle.station.proofs.nishkavel_list_started.Tie as tie
 
-list-started-requires : tie.Need-list-started-requires
-list-started-requires c κs = search needs
-
 number-of-requires : tie.Need-number-of-requires
 number-of-requires c κs = started-small _ _ _ _ _ _ _ _ (c .before .before .before .before .list-started .ensures)
-
-same-length : tie.Need-same-length
-same-length c = search needs
-
-same-length-2 : tie.Need-same-length-2
-same-length-2 c = search needs
 
 returns : tie.Need-returns
 returns c = search needs
 
 pub nishkavel-list-started-spec : {M : Type 1} → statement M
-nishkavel-list-started-spec =
-    tie.close (tie.spec list-started-requires number-of-requires same-length same-length-2 returns)
+nishkavel-list-started-spec = tie.close (tie.spec (λ c κs. search needs) number-of-requires (λ c. search needs) (λ c. search needs) returns)

@@ -4,18 +4,11 @@ use borrow.Author.Needs.{needs}
 use Rattle.station.proofs.nishkavel_started.Statement.{statement}
 use Rattle.station.proofs.nishkavel_started.Tie as tie
 
-start-packets-requires : tie.Need-start-packets-requires
-start-packets-requires c κs = search needs
-
 number-of-requires : tie.Need-number-of-requires
 number-of-requires c κs = starts-small _ _ _ _ _ _ (c .before .before .start-packets .ensures)
-
-same-length : tie.Need-same-length
-same-length c = search needs
 
 returns : tie.Need-returns
 returns c = search needs
 
 pub nishkavel-started-spec : {M : Type 1} → statement M
-nishkavel-started-spec =
-    tie.close (tie.spec start-packets-requires number-of-requires same-length returns)
+nishkavel-started-spec = tie.close (tie.spec (λ c κs. search needs) number-of-requires (λ c. search needs) returns)

@@ -28,12 +28,6 @@ returns-3 c = refused BadDocument (λ v. omega arith)
 loop-holds : tie.Need-loop-holds Inv-loop μ-loop
 loop-holds c = (omega arith, λ k l. absurd (omega arith))
 
-mul-if4 : tie.Need-mul-if4 Inv-loop μ-loop
-mul-if4 c = search needs
-
-shared-slice-read-if4 : tie.Need-shared-slice-read-if4 Inv-loop μ-loop
-shared-slice-read-if4 c = search needs
-
 returns-4 : tie.Need-returns-4 Inv-loop μ-loop
 returns-4 c = refused BadDocument (λ v. omega (arith, v .nodes (c .before .before .before .loop .i) (omega arith) .label .least))
 
@@ -44,12 +38,6 @@ returns-5 : tie.Need-returns-5 Inv-loop μ-loop
 returns-5 c =
     let h = c .before .node-hangs in
     refused BadDocument (λ v. failed (h .result) (c .if5 .taken) (h .ensures .1 (v .nodes (c .before .before .before .before .before .loop .i) (omega arith) .hangs)))
-
-add-i : tie.Need-add-i Inv-loop μ-loop
-add-i c = search needs
-
-loop-less : tie.Need-loop-less Inv-loop μ-loop
-loop-less c = search needs
 
 loop-again : tie.Need-loop-again Inv-loop μ-loop
 loop-again c =
@@ -64,21 +52,5 @@ returns-6 c =
     ((record { some = omega arith; few = omega arith; equal = omega arith; nodes = λ i l. c .before .loop .inv .1 i (omega arith) }, tt), tt)
 
 pub check-document-spec : {M : Type 1} → statement M
-check-document-spec =
-    tie.close
-    (tie.spec
-    Inv-loop
-    μ-loop
-    returns
-    returns-2
-    returns-3
-    loop-holds
-    mul-if4
-    shared-slice-read-if4
-    returns-4
-    node-hangs-requires
-    returns-5
-    add-i
-    loop-less
-    loop-again
-    returns-6)
+check-document-spec = tie.close (tie.spec Inv-loop μ-loop returns returns-2 returns-3 loop-holds (λ c. search needs) (λ c. search needs) returns-4
+    node-hangs-requires returns-5 (λ c. search needs) (λ c. search needs) loop-again returns-6)

@@ -32,34 +32,19 @@ returns c = refused BadPattern (λ v. omega arith)
 returns-2 : tie.Need-returns-2 Inv-loop μ-loop
 returns-2 c = refused BadPattern (λ v. omega arith)
 
-cast-output : tie.Need-cast-output Inv-loop μ-loop
-cast-output c = search needs
-
 returns-3 : tie.Need-returns-3 Inv-loop μ-loop
 returns-3 c = refused BadPattern (λ v. omega arith)
 
 loop-holds : tie.Need-loop-holds Inv-loop μ-loop
 loop-holds c = (omega arith, search needs, λ k l. absurd (omega arith))
 
-element-copy-out-if4 : tie.Need-element-copy-out-if4 Inv-loop μ-loop
-element-copy-out-if4 c = search needs
-
 returns-4 : tie.Need-returns-4 Inv-loop μ-loop
 returns-4 c =
     refused BadPattern (λ v. ⊎-elim (λ e. omega arith) (λ e. omega arith) (v .steps (c .before .before .before .loop .s) (omega arith) .axis))
 
-mul-if5 : tie.Need-mul-if5 Inv-loop μ-loop
-mul-if5 c = search needs
-
-element-copy-out-if5 : tie.Need-element-copy-out-if5 Inv-loop μ-loop
-element-copy-out-if5 c = search needs
-
 returns-5 : tie.Need-returns-5 Inv-loop μ-loop
 returns-5 c =
     refused BadPattern (λ v. omega (arith, v .steps (c .before .before .before .before .before .loop .s) (omega arith) .label .least))
-
-array-share-prefix-parents : tie.Need-array-share-prefix-parents Inv-loop μ-loop
-array-share-prefix-parents c = search needs
 
 slice-aggregate-step-hangs : tie.Need-slice-aggregate-step-hangs Inv-loop μ-loop
 slice-aggregate-step-hangs c = simp length-take (omega arith)
@@ -76,12 +61,6 @@ returns-6 c =
     let l = c .before .before .before .before .before .before .before .before .loop in
     let p = c .before .before .before .before .before .before .before .before .before .before .before .before .before .args .t1 in
     refused BadPattern (λ v. failed (h .result) (c .if6 .taken) (h .ensures .1 (hangs-front (p .parent) (p .count) (omega arith) 255 (l .s) (omega arith) .0 (v .steps (l .s) (omega arith) .hangs))))
-
-add-s : tie.Need-add-s Inv-loop μ-loop
-add-s c = search needs
-
-loop-less : tie.Need-loop-less Inv-loop μ-loop
-loop-less c = search needs
 
 loop-again : tie.Need-loop-again Inv-loop μ-loop
 loop-again c =
@@ -101,26 +80,6 @@ returns-7 c =
     ((record { some = omega arith; few = omega arith; steps = λ s l. c .before .loop .inv .2 s (omega arith); output = omega arith }, tt), tt)
 
 pub check-pattern-spec : {M : Type 1} → statement M
-check-pattern-spec =
-    tie.close
-    (tie.spec
-    Inv-loop
-    μ-loop
-    returns
-    returns-2
-    cast-output
-    returns-3
-    loop-holds
-    element-copy-out-if4
-    returns-4
-    mul-if5
-    element-copy-out-if5
-    returns-5
-    array-share-prefix-parents
-    slice-aggregate-step-hangs
-    step-hangs-requires
-    returns-6
-    add-s
-    loop-less
-    loop-again
-    returns-7)
+check-pattern-spec = tie.close (tie.spec Inv-loop μ-loop returns returns-2 (λ c. search needs) returns-3 loop-holds (λ c. search needs) returns-4
+    (λ c. search needs) (λ c. search needs) returns-5 (λ c. search needs) slice-aggregate-step-hangs step-hangs-requires returns-6 (λ c. search needs)
+    (λ c. search needs) loop-again returns-7)

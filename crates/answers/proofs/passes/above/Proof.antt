@@ -8,12 +8,6 @@ use Rattle.answers.proofs.passes.above.Tie as tie
 returns : tie.Need-returns
 returns c = search needs
 
-mul-result : tie.Need-mul-result
-mul-result c = search needs
-
-shared-slice-read-result : tie.Need-shared-slice-read-result
-shared-slice-read-result c = search needs
-
 cast-result : tie.Need-cast-result
 cast-result c = omega (arith, c .shared-slice-known .given (c .before .before .args .i))
 
@@ -31,13 +25,4 @@ returns-2 : tie.Need-returns-2
 returns-2 c = search needs
 
 pub above-spec : {M : Type 1} → statement M
-above-spec =
-    tie.close
-    (tie.spec
-    returns
-    mul-result
-    shared-slice-read-result
-    cast-result
-    mul-result-2
-    element-copy-out-result
-    returns-2)
+above-spec = tie.close (tie.spec returns (λ c. search needs) (λ c. search needs) cast-result mul-result-2 element-copy-out-result returns-2)

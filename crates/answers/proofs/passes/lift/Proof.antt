@@ -26,22 +26,10 @@ loop-holds c =
     let v = s .pre .0 in
     (omega (arith, v .some), omega arith, refl, λ A p. up-start A _ (p .valid) v (s .args .seed) _ _ refl (s .pre .1 .1) (λ q l. refl))
 
-sub-i : tie.Need-sub-i Inv-loop μ-loop
-sub-i c = omega arith
-
-mul-turn-up : tie.Need-mul-turn-up Inv-loop μ-loop
-mul-turn-up c = omega arith
-
 shared-slice-read-turn-up : tie.Need-shared-slice-read-turn-up Inv-loop μ-loop
 shared-slice-read-turn-up c =
     let s = c .before .before .before .before .before .before in
     omega (arith, s .pre .0 .equal)
-
-mul-turn-up-2 : tie.Need-mul-turn-up-2 Inv-loop μ-loop
-mul-turn-up-2 c = omega arith
-
-shared-slice-read-turn-up-2 : tie.Need-shared-slice-read-turn-up-2 Inv-loop μ-loop
-shared-slice-read-turn-up-2 c = omega arith
 
 cast-turn-up : tie.Need-cast-turn-up Inv-loop μ-loop
 cast-turn-up c =
@@ -55,9 +43,6 @@ turn-up-requires c κs =
     let i : ℕ = m .loop .i - 1 in
     let l : i < length (now (s .args .parents)) = omega arith in
     (parent-lt (document-ordered (s .pre .0)) i (omega arith) l, omega (arith, s .pre .0 .few), omega (arith, s .pre .1, m .loop .inv .2))
-
-loop-less : tie.Need-loop-less Inv-loop μ-loop
-loop-less c = omega arith
 
 loop-again : tie.Need-loop-again Inv-loop μ-loop
 loop-again c =
@@ -110,22 +95,5 @@ returns c =
     (fit-mask A _ _ _ _ _ _ _ _ _ _ p (omega (arith, v .nodes 0 (v .some) .label .most)))) r)
 
 pub lift-spec : {M : Type 1} → statement M
-lift-spec =
-    tie.close
-    (tie.spec
-    Inv-loop
-    μ-loop
-    loop-holds
-    sub-i
-    mul-turn-up
-    shared-slice-read-turn-up
-    mul-turn-up-2
-    shared-slice-read-turn-up-2
-    cast-turn-up
-    turn-up-requires
-    loop-less
-    loop-again
-    shared-slice-read-turn-root
-    turn-root-requires
-    same-length
-    returns)
+lift-spec = tie.close (tie.spec Inv-loop μ-loop loop-holds (λ c. omega arith) (λ c. omega arith) shared-slice-read-turn-up (λ c. omega arith)
+    (λ c. omega arith) cast-turn-up turn-up-requires (λ c. omega arith) loop-again shared-slice-read-turn-root turn-root-requires same-length returns)

@@ -39,12 +39,6 @@ note-requires c κs =
     let s = m .before .before .before .before in
     (omega (arith, s .pre .0 .3, m .loop .inv .3, m .loop .inv .4), omega (arith, s .pre .0 .1, m .loop .inv .4), omega (arith, s .pre .0 .1), omega (arith, s .pre .0 .0))
 
-add-i : tie.Need-add-i Inv-loop μ-loop
-add-i c = omega arith
-
-loop-less : tie.Need-loop-less Inv-loop μ-loop
-loop-less c = omega arith
-
 loop-again : tie.Need-loop-again Inv-loop μ-loop
 loop-again c =
     let m = c .before .before .before .before .before .before .before .before .before .before in
@@ -80,17 +74,5 @@ returns c =
     listed-found A _ (Marked (now (s .args .work))) (k .valid) _ _ _ _ _ _ (u .1) (u .0)
 
 pub lower-spec : {M : Type 1} → statement M
-lower-spec =
-    tie.close
-    (tie.spec
-    Inv-loop
-    μ-loop
-    loop-holds
-    turn-down-requires
-    note-requires
-    add-i
-    loop-less
-    loop-again
-    same-length
-    same-length-2
-    returns)
+lower-spec = tie.close (tie.spec Inv-loop μ-loop loop-holds turn-down-requires note-requires (λ c. omega arith) (λ c. omega arith) loop-again
+    same-length same-length-2 returns)

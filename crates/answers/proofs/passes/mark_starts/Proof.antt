@@ -28,12 +28,6 @@ room l i h = omega (arith, l .before .pre .1 i h, l .before .pre .0, l .loop .in
 loop-holds : tie.Need-loop-holds Inv-loop μ-loop
 loop-holds c = (omega arith, marked-start _ _)
 
-mul-node : tie.Need-mul-node Inv-loop μ-loop
-mul-node c = omega arith
-
-shared-slice-read-node : tie.Need-shared-slice-read-node Inv-loop μ-loop
-shared-slice-read-node c = omega arith
-
 cast-node : tie.Need-cast-node Inv-loop μ-loop
 cast-node c = slots _ (c .shared-slice-known .given _) .0
 
@@ -48,12 +42,6 @@ mul-work-2 c = slots _ (c .shared-slice-known .given _) .3
 
 slice-write-work : tie.Need-slice-write-work Inv-loop μ-loop
 slice-write-work c = room (c .before .before) _ (omega arith)
-
-add-k : tie.Need-add-k Inv-loop μ-loop
-add-k c = omega arith
-
-loop-less : tie.Need-loop-less Inv-loop μ-loop
-loop-less c = omega arith
 
 loop-again : tie.Need-loop-again Inv-loop μ-loop
 loop-again c =
@@ -71,21 +59,5 @@ returns c =
     (marked-all _ _ _ m, marked-others _ _ _ m)
 
 pub mark-starts-spec : {M : Type 1} → statement M
-mark-starts-spec =
-    tie.close
-    (tie.spec
-    Inv-loop
-    μ-loop
-    loop-holds
-    mul-node
-    shared-slice-read-node
-    cast-node
-    mul-work
-    add-work
-    mul-work-2
-    slice-write-work
-    add-k
-    loop-less
-    loop-again
-    same-length
-    returns)
+mark-starts-spec = tie.close (tie.spec Inv-loop μ-loop loop-holds (λ c. omega arith) (λ c. omega arith) cast-node mul-work add-work mul-work-2
+    slice-write-work (λ c. omega arith) (λ c. omega arith) loop-again same-length returns)

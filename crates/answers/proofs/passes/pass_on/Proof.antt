@@ -5,9 +5,6 @@ use borrow.Author.Needs.{needs}
 use Rattle.answers.proofs.passes.pass_on.Statement.{statement}
 use Rattle.answers.proofs.passes.pass_on.Tie as tie
 
-look-up-requires : tie.Need-look-up-requires
-look-up-requires c κs = search needs
-
 returns : tie.Need-returns
 returns c =
     ⊎-elim
@@ -16,4 +13,4 @@ returns c =
     (c .before .if1 .came)
 
 pub pass-on-spec : {M : Type 1} → statement M
-pass-on-spec = tie.close (tie.spec look-up-requires returns)
+pass-on-spec = tie.close (tie.spec (λ c κs. search needs) returns)

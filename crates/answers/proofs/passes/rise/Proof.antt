@@ -10,39 +10,12 @@ use borrow.Author.Needs.{needs}
 use Rattle.answers.proofs.passes.rise.Statement.{statement}
 use Rattle.answers.proofs.passes.rise.Tie as tie
 
-label-steps-requires : tie.Need-label-steps-requires
-label-steps-requires c κs = search needs
-
-parent-table-requires : tie.Need-parent-table-requires
-parent-table-requires c κs = search needs
-
-axis-steps-requires : tie.Need-axis-steps-requires
-axis-steps-requires c κs = search needs
-
-axis-steps-requires-2 : tie.Need-axis-steps-requires-2
-axis-steps-requires-2 c κs = search needs
-
-near-steps-requires : tie.Need-near-steps-requires
-near-steps-requires c κs = search needs
-
-fork-steps-requires : tie.Need-fork-steps-requires
-fork-steps-requires c κs = search needs
-
-mul-clear : tie.Need-mul-clear
-mul-clear c = search needs
-
-clear-requires : tie.Need-clear-requires
-clear-requires c κs = search needs
-
 lift-requires : tie.Need-lift-requires
 lift-requires c κs =
     let s = c .before .before .before .before .before .before .before .before .before .before .before .before .before .before .before .before .before .before .before .before in
     let e = c .before .before .before .before .before .before .clear .ensures in
     let n : ℕ = length (now (s .args .parents)) in
     (s .pre .1 .0, (rw (e, cleared-length (2 * n) (now (s .args .work)) (s .pre .1 .1)) (s .pre .1 .1), λ q l. rw e (cleared-zero (2 * n) (now (s .args .work)) q l)))
-
-same-length : tie.Need-same-length
-same-length c = search needs
 
 returns : tie.Need-returns
 returns c =
@@ -64,17 +37,5 @@ returns c =
     (rw e at (c .before .before .lift .ensures (shapeOf (s .args .p)) p))
 
 pub rise-spec : {M : Type 1} → statement M
-rise-spec =
-    tie.close
-    (tie.spec
-    label-steps-requires
-    parent-table-requires
-    axis-steps-requires
-    axis-steps-requires-2
-    near-steps-requires
-    fork-steps-requires
-    mul-clear
-    clear-requires
-    lift-requires
-    same-length
-    returns)
+rise-spec = tie.close (tie.spec (λ c κs. search needs) (λ c κs. search needs) (λ c κs. search needs) (λ c κs. search needs) (λ c κs. search needs)
+    (λ c κs. search needs) (λ c. search needs) (λ c κs. search needs) lift-requires (λ c. search needs) returns)

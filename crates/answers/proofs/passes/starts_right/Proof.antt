@@ -18,12 +18,6 @@ abbrev μ-loop : tie.MeasureT-loop
 loop-holds : tie.Need-loop-holds Inv-loop μ-loop
 loop-holds c = (omega arith, rising-start _ _)
 
-mul-x : tie.Need-mul-x Inv-loop μ-loop
-mul-x c = omega arith
-
-shared-slice-read-x : tie.Need-shared-slice-read-x Inv-loop μ-loop
-shared-slice-read-x c = omega arith
-
 cast-x : tie.Need-cast-x Inv-loop μ-loop
 cast-x c = omega (arith, c .shared-slice-known .given (c .before .before .loop .k))
 
@@ -42,12 +36,6 @@ add-least c =
     let l = c .before .before .before .before in
     omega (arith, c .before .before .shared-slice-known .given (l .loop .k))
 
-add-k : tie.Need-add-k Inv-loop μ-loop
-add-k c = omega arith
-
-loop-less : tie.Need-loop-less Inv-loop μ-loop
-loop-less c = omega arith
-
 loop-again : tie.Need-loop-again Inv-loop μ-loop
 loop-again c =
     let l = c .before .before .before .before in
@@ -63,19 +51,5 @@ returns-3 c =
     (λ j h. l .loop .inv .1 .up j (omega arith), λ j h. l .loop .inv .1 .small j (omega arith))
 
 pub starts-right-spec : {M : Type 1} → statement M
-starts-right-spec =
-    tie.close
-    (tie.spec
-    Inv-loop
-    μ-loop
-    loop-holds
-    mul-x
-    shared-slice-read-x
-    cast-x
-    returns
-    returns-2
-    add-least
-    add-k
-    loop-less
-    loop-again
-    returns-3)
+starts-right-spec = tie.close (tie.spec Inv-loop μ-loop loop-holds (λ c. omega arith) (λ c. omega arith) cast-x returns returns-2 add-least
+    (λ c. omega arith) (λ c. omega arith) loop-again returns-3)

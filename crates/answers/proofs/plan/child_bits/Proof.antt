@@ -17,9 +17,6 @@ abbrev μ-loop : tie.MeasureT-loop
 loop-holds : tie.Need-loop-holds Inv-loop μ-loop
 loop-holds c = (omega arith, omega arith, rw (c .pre .1) (length-replicate {A = ℕ} 64 0), rw (c .pre .1) (keyed-none _ 1 64))
 
-element-copy-out-s : tie.Need-element-copy-out-s Inv-loop μ-loop
-element-copy-out-s c = omega arith
-
 -- the step's parent is below 64
 few : (c : tie.In-loop Inv-loop μ-loop) → getD (c .before .before .args .t1 .parent) (c .before .loop .t) 0 < 64
 few c = parent-few (shapeOf (c .before .before .args .t1)) (c .before .before .pre .0) (c .before .loop .t) (c .before .loop .inv .0) (c .loop-test .taken)
@@ -33,20 +30,11 @@ mul-to c = record { fits = omega (arith, few (c .before)) }
 element-copy-out-to : tie.Need-element-copy-out-to Inv-loop μ-loop
 element-copy-out-to c = few (c .before)
 
-one-bit-requires : tie.Need-one-bit-requires Inv-loop μ-loop
-one-bit-requires c κs = omega arith
-
 mul-to-2 : tie.Need-mul-to-2 Inv-loop μ-loop
 mul-to-2 c = record { fits = omega (arith, few (c .before .before .before)) }
 
 element-write-to : tie.Need-element-write-to Inv-loop μ-loop
 element-write-to c = few (c .before .before .before)
-
-add-t : tie.Need-add-t Inv-loop μ-loop
-add-t c = omega arith
-
-loop-less : tie.Need-loop-less Inv-loop μ-loop
-loop-less c = omega arith
 
 loop-again : tie.Need-loop-again Inv-loop μ-loop
 loop-again c =
@@ -63,20 +51,5 @@ returns c =
     children-all (shapeOf (c .before .before .args .t1)) (c .before .loop .to) (rw e at (c .before .loop .inv .3))
 
 pub child-bits-spec : {M : Type 1} → statement M
-child-bits-spec =
-    tie.close
-    (tie.spec
-    Inv-loop
-    μ-loop
-    loop-holds
-    element-copy-out-s
-    cast-s
-    mul-to
-    element-copy-out-to
-    one-bit-requires
-    mul-to-2
-    element-write-to
-    add-t
-    loop-less
-    loop-again
-    returns)
+child-bits-spec = tie.close (tie.spec Inv-loop μ-loop loop-holds (λ c. omega arith) cast-s mul-to element-copy-out-to (λ c κs. omega arith) mul-to-2
+    element-write-to (λ c. omega arith) (λ c. omega arith) loop-again returns)

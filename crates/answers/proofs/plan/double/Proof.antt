@@ -14,33 +14,6 @@ abbrev μ-loop : tie.MeasureT-loop
 loop-holds : tie.Need-loop-holds Inv-loop μ-loop
 loop-holds c = (omega arith, doubling-none _ _ _ _)
 
-add-table : tie.Need-add-table Inv-loop μ-loop
-add-table c = omega arith
-
-mul-table : tie.Need-mul-table Inv-loop μ-loop
-mul-table c = omega arith
-
-element-copy-out-table : tie.Need-element-copy-out-table Inv-loop μ-loop
-element-copy-out-table c = omega arith
-
-add-table-2 : tie.Need-add-table-2 Inv-loop μ-loop
-add-table-2 c = omega arith
-
-add-table-3 : tie.Need-add-table-3 Inv-loop μ-loop
-add-table-3 c = omega arith
-
-mul-table-2 : tie.Need-mul-table-2 Inv-loop μ-loop
-mul-table-2 c = omega arith
-
-element-write-table : tie.Need-element-write-table Inv-loop μ-loop
-element-write-table c = omega arith
-
-add-u : tie.Need-add-u Inv-loop μ-loop
-add-u c = omega arith
-
-loop-less : tie.Need-loop-less Inv-loop μ-loop
-loop-less c = omega arith
-
 loop-again : tie.Need-loop-again Inv-loop μ-loop
 loop-again c =
     let m = c .before .before in
@@ -50,20 +23,5 @@ returns : tie.Need-returns Inv-loop μ-loop
 returns c = doubling-all _ _ _ _ _ _ (omega arith) (c .before .loop .inv .1)
 
 pub double-spec : {M : Type 1} → statement M
-double-spec =
-    tie.close
-    (tie.spec
-    Inv-loop
-    μ-loop
-    loop-holds
-    add-table
-    mul-table
-    element-copy-out-table
-    add-table-2
-    add-table-3
-    mul-table-2
-    element-write-table
-    add-u
-    loop-less
-    loop-again
-    returns)
+double-spec = tie.close (tie.spec Inv-loop μ-loop loop-holds (λ c. omega arith) (λ c. omega arith) (λ c. omega arith) (λ c. omega arith)
+    (λ c. omega arith) (λ c. omega arith) (λ c. omega arith) (λ c. omega arith) (λ c. omega arith) loop-again returns)

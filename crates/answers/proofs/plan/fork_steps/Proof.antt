@@ -19,9 +19,6 @@ abbrev μ-loop : tie.MeasureT-loop
 loop-holds : tie.Need-loop-holds Inv-loop μ-loop
 loop-holds c = (omega arith, omega arith, forking-none _ 0)
 
-element-copy-out-s : tie.Need-element-copy-out-s Inv-loop μ-loop
-element-copy-out-s c = omega arith
-
 -- the step's parent is below 64
 few : (c : tie.In-loop Inv-loop μ-loop) → getD (c .before .before .args .t1 .parent) (c .before .loop .t) 0 < 64
 few c = parent-few (shapeOf (c .before .before .args .t1)) (c .before .before .pre) (c .before .loop .t) (c .before .loop .inv .0) (c .loop-test .taken)
@@ -34,12 +31,6 @@ add-if1 c = record { fits = omega (arith, few (c .before)) }
 
 one-bit-requires : tie.Need-one-bit-requires Inv-loop μ-loop
 one-bit-requires c κs = few (c .before .before)
-
-add-t : tie.Need-add-t Inv-loop μ-loop
-add-t c = omega arith
-
-loop-less : tie.Need-loop-less Inv-loop μ-loop
-loop-less c = omega arith
 
 loop-again : tie.Need-loop-again Inv-loop μ-loop
 loop-again c =
@@ -59,17 +50,5 @@ returns c =
     forks-all (shapeOf (c .before .before .args .t1)) (c .before .loop .x) (rw e at (c .before .loop .inv .2))
 
 pub fork-steps-spec : {M : Type 1} → statement M
-fork-steps-spec =
-    tie.close
-    (tie.spec
-    Inv-loop
-    μ-loop
-    loop-holds
-    element-copy-out-s
-    cast-s
-    add-if1
-    one-bit-requires
-    add-t
-    loop-less
-    loop-again
-    returns)
+fork-steps-spec = tie.close (tie.spec Inv-loop μ-loop loop-holds (λ c. omega arith) cast-s add-if1 one-bit-requires (λ c. omega arith)
+    (λ c. omega arith) loop-again returns)

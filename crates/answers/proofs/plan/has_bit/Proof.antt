@@ -6,12 +6,9 @@ use Rattle.answers.proofs.Gathering.{says-eqb}
 use Rattle.answers.proofs.plan.has_bit.Statement.{statement}
 use Rattle.answers.proofs.plan.has_bit.Tie as tie
 
-shr-result : tie.Need-shr-result
-shr-result c = search needs
-
 returns : tie.Need-returns
 unfolding bit
 returns c = says-eqb (c .args .x / 2 ^ c .args .s % 2) 1
 
 pub has-bit-spec : {M : Type 1} → statement M
-has-bit-spec = tie.close (tie.spec shr-result returns)
+has-bit-spec = tie.close (tie.spec (λ c. search needs) returns)

@@ -28,32 +28,8 @@ loop-holds c = (
 small : (c : tie.In-loop Inv-loop μ-loop) → getD (c .before .before .args .t1 .label) (c .before .loop .s) 0 < 65536
 small c = label-small (shapeOf (c .before .before .args .t1)) (c .before .before .pre .0) (c .before .loop .s) (c .loop-test .taken)
 
-mul-l : tie.Need-mul-l Inv-loop μ-loop
-mul-l c = omega arith
-
-element-copy-out-l : tie.Need-element-copy-out-l Inv-loop μ-loop
-element-copy-out-l c = omega arith
-
-cast-a : tie.Need-cast-a Inv-loop μ-loop
-cast-a c = omega arith
-
 cast-b : tie.Need-cast-b Inv-loop μ-loop
 cast-b c = record { fits = omega (arith, small (c .before)) }
-
-one-bit-requires : tie.Need-one-bit-requires Inv-loop μ-loop
-one-bit-requires c κs = omega arith
-
-mul-low : tie.Need-mul-low Inv-loop μ-loop
-mul-low c = omega arith
-
-element-copy-out-low : tie.Need-element-copy-out-low Inv-loop μ-loop
-element-copy-out-low c = omega arith
-
-mul-low-2 : tie.Need-mul-low-2 Inv-loop μ-loop
-mul-low-2 c = omega arith
-
-element-write-low : tie.Need-element-write-low Inv-loop μ-loop
-element-write-low c = omega arith
 
 mul-high : tie.Need-mul-high Inv-loop μ-loop
 mul-high c = record { fits = omega (arith, small (c .before .before .before)) }
@@ -66,12 +42,6 @@ mul-high-2 c = record { fits = omega (arith, small (c .before .before .before .b
 
 element-write-high : tie.Need-element-write-high Inv-loop μ-loop
 element-write-high c = omega (arith, small (c .before .before .before .before))
-
-add-s : tie.Need-add-s Inv-loop μ-loop
-add-s c = omega arith
-
-loop-less : tie.Need-loop-less Inv-loop μ-loop
-loop-less c = omega arith
 
 loop-again : tie.Need-loop-again Inv-loop μ-loop
 loop-again c =
@@ -92,26 +62,6 @@ returns c =
     labelled-all (shapeOf (c .before .before .args .t1)) (c .before .loop .low) (c .before .loop .high) (i .1) (i .2) (rw e at (i .3)) (rw e at (i .4))
 
 pub label-steps-spec : {M : Type 1} → statement M
-label-steps-spec =
-    tie.close
-    (tie.spec
-    Inv-loop
-    μ-loop
-    loop-holds
-    mul-l
-    element-copy-out-l
-    cast-a
-    cast-b
-    one-bit-requires
-    mul-low
-    element-copy-out-low
-    mul-low-2
-    element-write-low
-    mul-high
-    element-copy-out-high
-    mul-high-2
-    element-write-high
-    add-s
-    loop-less
-    loop-again
-    returns)
+label-steps-spec = tie.close (tie.spec Inv-loop μ-loop loop-holds (λ c. omega arith) (λ c. omega arith) (λ c. omega arith) cast-b
+    (λ c κs. omega arith) (λ c. omega arith) (λ c. omega arith) (λ c. omega arith) (λ c. omega arith) mul-high element-copy-out-high mul-high-2
+    element-write-high (λ c. omega arith) (λ c. omega arith) loop-again returns)

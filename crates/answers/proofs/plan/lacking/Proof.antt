@@ -7,9 +7,6 @@ use Rattle.answers.specs.Plan.{lackMask}
 use Rattle.answers.proofs.plan.lacking.Statement.{statement}
 use Rattle.answers.proofs.plan.lacking.Tie as tie
 
-look-up-requires : tie.Need-look-up-requires
-look-up-requires c κs = search needs
-
 returns : tie.Need-returns
 unfolding lackMask
 returns c = let s = c .before .before in rw (lt-ltb 0 (bitAnd (s .args .mask) (s .args .forks)) (c .before .if1 .taken)) (c .look-up .ensures)
@@ -19,4 +16,4 @@ unfolding lackMask
 returns-2 c = let s = c .before in rw (le-ltb 0 (bitAnd (s .args .mask) (s .args .forks)) (omega (arith, c .if1 .left)))
 
 pub lacking-spec : {M : Type 1} → statement M
-lacking-spec = tie.close (tie.spec look-up-requires returns returns-2)
+lacking-spec = tie.close (tie.spec (λ c κs. search needs) returns returns-2)

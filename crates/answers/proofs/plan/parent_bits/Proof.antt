@@ -18,9 +18,6 @@ abbrev μ-loop : tie.MeasureT-loop
 loop-holds : tie.Need-loop-holds Inv-loop μ-loop
 loop-holds c = (omega arith, omega arith, rw (c .pre .1) (length-replicate {A = ℕ} 64 0), rw (c .pre .1) (pointed-none _ 64))
 
-element-copy-out-one-bit : tie.Need-element-copy-out-one-bit Inv-loop μ-loop
-element-copy-out-one-bit c = omega arith
-
 -- the step's parent is below 64
 few : (c : tie.In-loop Inv-loop μ-loop) → getD (c .before .before .args .t1 .parent) (c .before .loop .t) 0 < 64
 few c = parent-few (shapeOf (c .before .before .args .t1)) (c .before .before .pre .0) (c .before .loop .t) (c .before .loop .inv .0) (c .loop-test .taken)
@@ -30,18 +27,6 @@ cast-one-bit c = record { fits = omega (arith, few (c .before)) }
 
 one-bit-requires : tie.Need-one-bit-requires Inv-loop μ-loop
 one-bit-requires c κs = few (c .before)
-
-mul-to : tie.Need-mul-to Inv-loop μ-loop
-mul-to c = omega arith
-
-element-write-to : tie.Need-element-write-to Inv-loop μ-loop
-element-write-to c = omega arith
-
-add-t : tie.Need-add-t Inv-loop μ-loop
-add-t c = omega arith
-
-loop-less : tie.Need-loop-less Inv-loop μ-loop
-loop-less c = omega arith
 
 loop-again : tie.Need-loop-again Inv-loop μ-loop
 loop-again c =
@@ -58,18 +43,5 @@ returns c =
     parents-all (shapeOf (c .before .before .args .t1)) (c .before .loop .to) (rw e at (c .before .loop .inv .3))
 
 pub parent-bits-spec : {M : Type 1} → statement M
-parent-bits-spec =
-    tie.close
-    (tie.spec
-    Inv-loop
-    μ-loop
-    loop-holds
-    element-copy-out-one-bit
-    cast-one-bit
-    one-bit-requires
-    mul-to
-    element-write-to
-    add-t
-    loop-less
-    loop-again
-    returns)
+parent-bits-spec = tie.close (tie.spec Inv-loop μ-loop loop-holds (λ c. omega arith) cast-one-bit one-bit-requires (λ c. omega arith)
+    (λ c. omega arith) (λ c. omega arith) (λ c. omega arith) loop-again returns)

@@ -6,12 +6,6 @@ use Rattle.answers.proofs.Lookups.{spread-marks}
 use Rattle.answers.proofs.plan.parent_table.Statement.{statement}
 use Rattle.answers.proofs.plan.parent_table.Tie as tie
 
-parent-bits-requires : tie.Need-parent-bits-requires
-parent-bits-requires c κs = search needs
-
-spread-requires : tie.Need-spread-requires
-spread-requires c κs = search needs
-
 returns : tie.Need-returns
 returns c =
     let p = c .before .before .before .before .before .args .p in
@@ -19,4 +13,4 @@ returns c =
     spread-marks (ToParent (shapeOf p)) (p .count) (b .last .1 .0) (c .spread .last .1 .1 .0) (b .ensures) (c .spread .ensures)
 
 pub parent-table-spec : {M : Type 1} → statement M
-parent-table-spec = tie.close (tie.spec parent-bits-requires spread-requires returns)
+parent-table-spec = tie.close (tie.spec (λ c κs. search needs) (λ c κs. search needs) returns)

@@ -22,29 +22,11 @@ abbrev μ-loop : tie.MeasureT-loop
 loop-holds : tie.Need-loop-holds Inv-loop μ-loop
 loop-holds c = (omega arith, rw (c .pre .1) (spread-none _))
 
-mul-double : tie.Need-mul-double Inv-loop μ-loop
-mul-double c = omega arith
-
-shl-double : tie.Need-shl-double Inv-loop μ-loop
-shl-double c = omega arith
-
-mul-double-2 : tie.Need-mul-double-2 Inv-loop μ-loop
-mul-double-2 c = omega arith
-
-element-copy-out-double : tie.Need-element-copy-out-double Inv-loop μ-loop
-element-copy-out-double c = omega arith
-
 double-requires : tie.Need-double-requires Inv-loop μ-loop
 double-requires c κs =
     let m = c .before .before .before in
     let p = pow-mono {i = m .loop .t % 8} {j = 7} (omega arith) in
     (m .loop .inv .1 .size, rw (shl-one (m .loop .t % 8) (omega arith)) (omega arith))
-
-add-t : tie.Need-add-t Inv-loop μ-loop
-add-t c = omega arith
-
-loop-less : tie.Need-loop-less Inv-loop μ-loop
-loop-less c = omega arith
 
 loop-again : tie.Need-loop-again Inv-loop μ-loop
 loop-again c =
@@ -59,18 +41,5 @@ returns : tie.Need-returns Inv-loop μ-loop
 returns c = let e : c .before .loop .t ≡ c .before .before .args .n = omega arith in rw e at (c .before .loop .inv .1)
 
 pub spread-spec : {M : Type 1} → statement M
-spread-spec =
-    tie.close
-    (tie.spec
-    Inv-loop
-    μ-loop
-    loop-holds
-    mul-double
-    shl-double
-    mul-double-2
-    element-copy-out-double
-    double-requires
-    add-t
-    loop-less
-    loop-again
-    returns)
+spread-spec = tie.close (tie.spec Inv-loop μ-loop loop-holds (λ c. omega arith) (λ c. omega arith) (λ c. omega arith) (λ c. omega arith)
+    double-requires (λ c. omega arith) (λ c. omega arith) loop-again returns)

@@ -44,9 +44,6 @@ put-byte-requires-2 c κs =
     let putlist = c .before .before .before .put-list in
     omega (arith, x .pre, line-length (now (x .args .word)) (now (x .args .list)), putword .ensures .end, putword .kept .0, putitem .ensures .end, putitem .kept .0, putbyte .ensures .end, putbyte .kept .0, putlist .ensures .end, putlist .kept .0)
 
-same-length : tie.Need-same-length
-same-length c = search needs
-
 returns : tie.Need-returns
 unfolding line
 returns c =
@@ -55,13 +52,5 @@ returns c =
     wrote-then l (wrote-then l (wrote-then l (wrote-then l (c .before .before .before .before .before .before .before .before .before .before .before .before .before .before .before .before .before .before .put-word .ensures) (c .before .before .before .before .before .before .before .before .before .before .before .before .before .before .put-item .ensures)) (c .before .before .before .before .before .before .before .before .before .before .put-byte .ensures)) (c .before .before .before .before .before .before .put-list .ensures)) (c .before .before .put-byte2 .ensures)
 
 pub put-line-spec : {M : Type 1} → statement M
-put-line-spec =
-    tie.close
-    (tie.spec
-    put-word-requires
-    put-item-requires
-    put-byte-requires
-    put-list-requires
-    put-byte-requires-2
-    same-length
+put-line-spec = tie.close (tie.spec put-word-requires put-item-requires put-byte-requires put-list-requires put-byte-requires-2 (λ c. search needs)
     returns)

@@ -17,12 +17,6 @@ abbrev μ-loop : tie.MeasureT-loop
 loop-holds : tie.Need-loop-holds Inv-loop μ-loop
 loop-holds c = spaced-none _ _ _
 
-mul-put-item : tie.Need-mul-put-item Inv-loop μ-loop
-mul-put-item c = search needs
-
-shared-slice-read-put-item : tie.Need-shared-slice-read-put-item Inv-loop μ-loop
-shared-slice-read-put-item c = search needs
-
 cast-put-item : tie.Need-cast-put-item Inv-loop μ-loop
 cast-put-item c = omega (arith, c .shared-slice-known2 .given (c .before .before .before .loop .i))
 
@@ -31,12 +25,6 @@ put-item-requires c κs =
     let l = c .before .before .before .loop in
     let x = c .before .before .before .before .before .before in
     omega (arith, x .pre, l .inv .same, l .inv .wrote .end, spaced-room (now (x .args .list)) (l .i) (omega arith))
-
-add-i : tie.Need-add-i Inv-loop μ-loop
-add-i c = search needs
-
-loop-less : tie.Need-loop-less Inv-loop μ-loop
-loop-less c = search needs
 
 loop-again : tie.Need-loop-again Inv-loop μ-loop
 loop-again c =
@@ -52,18 +40,5 @@ returns : tie.Need-returns Inv-loop μ-loop
 returns c = spaced-all _ _ _ _ _ _ (omega arith) (c .before .loop .inv)
 
 pub put-list-spec : {M : Type 1} → statement M
-put-list-spec =
-    tie.close
-    (tie.spec
-    Inv-loop
-    μ-loop
-    loop-holds
-    mul-put-item
-    shared-slice-read-put-item
-    cast-put-item
-    put-item-requires
-    add-i
-    loop-less
-    loop-again
-    same-length
-    returns)
+put-list-spec = tie.close (tie.spec Inv-loop μ-loop loop-holds (λ c. search needs) (λ c. search needs) cast-put-item put-item-requires
+    (λ c. search needs) (λ c. search needs) loop-again same-length returns)

@@ -9,9 +9,6 @@ use Rattle.asking.proofs.Writing.{wrote-then, refused-length}
 use Rattle.asking.proofs.text.put_refused.Statement.{statement}
 use Rattle.asking.proofs.text.put_refused.Tie as tie
 
-slice-aggregate-put-word : tie.Need-slice-aggregate-put-word
-slice-aggregate-put-word c = search needs
-
 put-word-requires : tie.Need-put-word-requires
 put-word-requires c κs =
     let x = c .before .before .before .before in
@@ -47,9 +44,6 @@ put-byte-requires-2 c κs =
     let putword2 = c .before .before .before .put-word2 in
     omega (arith, x .pre, refused-length (x .args .number) (now (x .args .word)), putword .ensures .end, putword .kept .0, putitem .ensures .end, putitem .kept .0, putbyte .ensures .end, putbyte .kept .0, putword2 .ensures .end, putword2 .kept .0)
 
-same-length : tie.Need-same-length
-same-length c = search needs
-
 returns : tie.Need-returns
 unfolding refusedLine
 returns c =
@@ -58,14 +52,5 @@ returns c =
     wrote-then l (wrote-then l (wrote-then l (wrote-then l (c .before .before .before .before .before .before .before .before .before .before .before .before .before .before .before .before .before .before .put-word .ensures) (c .before .before .before .before .before .before .before .before .before .before .before .before .before .before .put-item .ensures)) (c .before .before .before .before .before .before .before .before .before .before .put-byte .ensures)) (c .before .before .before .before .before .before .put-word2 .ensures)) (c .before .before .put-byte2 .ensures)
 
 pub put-refused-spec : {M : Type 1} → statement M
-put-refused-spec =
-    tie.close
-    (tie.spec
-    slice-aggregate-put-word
-    put-word-requires
-    put-item-requires
-    put-byte-requires
-    put-word-requires-2
-    put-byte-requires-2
-    same-length
-    returns)
+put-refused-spec = tie.close (tie.spec (λ c. search needs) put-word-requires put-item-requires put-byte-requires put-word-requires-2
+    put-byte-requires-2 (λ c. search needs) returns)

@@ -26,21 +26,12 @@ Inv-loop a fit first b parents axes mapping₀ n t₀ mapping t =
 abbrev μ-loop : tie.MeasureT-loop
 μ-loop a fit first b parents axes mapping₀ n t₀ mapping t = n - t
 
-cast-t15 : tie.Need-cast-t15 Inv-loop μ-loop
-cast-t15 c = search needs
-
-array-set-from-mapping : tie.Need-array-set-from-mapping Inv-loop μ-loop
-array-set-from-mapping c = search needs
-
 loop-holds : tie.Need-loop-holds Inv-loop μ-loop
 loop-holds c =
     let s = c .before .before in
     let v = s .pre .0 in
     let g = s .pre .1 .1 in
     (omega arith, omega (arith, v .1 .some), (λ u. s .args .first, mapping-one (s .args .first), chose-start _ _ (v .1) (v .0) (s .args .first) (g .1) (g .0)))
-
-element-copy-out-o : tie.Need-element-copy-out-o Inv-loop μ-loop
-element-copy-out-o c = omega arith
 
 -- the parent step, its image, and that the image is a step of a
 up : (c : tie.In-loop Inv-loop μ-loop) → getD (c .before .before .before .before .args .t2 .parent) (c .before .loop .t) 0 < c .before .loop .t
@@ -54,17 +45,11 @@ small : (c : tie.In-loop Inv-loop μ-loop)
     → getD (c .before .loop .mapping) (getD (c .before .before .before .before .args .t2 .parent) (c .before .loop .t) 0) (stepNo 0) .0 < c .before .before .before .before .args .a .count
 small c = rw (image c) (able-ok (mapTask (shapeOf (c .before .before .before .before .args .t2)) (shapeOf (c .before .before .before .before .args .a))) (c .before .loop .inv .2 .2 .can _ (up c)) .0 .here)
 
-cast-o : tie.Need-cast-o Inv-loop μ-loop
-cast-o c = search needs
-
 element-copy-out-q : tie.Need-element-copy-out-q Inv-loop μ-loop
 element-copy-out-q c = omega (arith, up (c .before), c .before .before .before .before .before .pre .0 .1 .few)
 
 cast-q : tie.Need-cast-q Inv-loop μ-loop
 cast-q c = record { fits = omega (arith, small (c .before), c .before .before .before .before .before .pre .0 .0 .few) }
-
-element-copy-out-next-image : tie.Need-element-copy-out-next-image Inv-loop μ-loop
-element-copy-out-next-image c = omega arith
 
 next-image-requires : tie.Need-next-image-requires Inv-loop μ-loop
 next-image-requires c κs =
@@ -96,12 +81,6 @@ cast-t21 c = record { fits = omega (arith, found c) }
 array-set-from-mapping-2 : tie.Need-array-set-from-mapping-2 Inv-loop μ-loop
 array-set-from-mapping-2 c = omega (arith, c .before .before .before .before .before .before .before .before .before .pre .0 .1 .few)
 
-add-t : tie.Need-add-t Inv-loop μ-loop
-add-t c = omega arith
-
-loop-less : tie.Need-loop-less Inv-loop μ-loop
-loop-less c = omega arith
-
 loop-again : tie.Need-loop-again Inv-loop μ-loop
 loop-again c =
     let m = c .before .before .before .before .before .before in
@@ -125,23 +104,6 @@ returns c =
     record { by = i .0; least = chose-end _ _ (s .pre .0 .1) (s .pre .0 .0) (i .0) (rw e at (i .2)); array = rw e at (i .1) }
 
 pub choose-spec : {M : Type 1} → statement M
-choose-spec =
-    tie.close
-    (tie.spec
-    Inv-loop
-    μ-loop
-    cast-t15
-    array-set-from-mapping
-    loop-holds
-    element-copy-out-o
-    cast-o
-    element-copy-out-q
-    cast-q
-    element-copy-out-next-image
-    next-image-requires
-    cast-t21
-    array-set-from-mapping-2
-    add-t
-    loop-less
-    loop-again
-    returns)
+choose-spec = tie.close (tie.spec Inv-loop μ-loop (λ c. search needs) (λ c. search needs) loop-holds (λ c. omega arith) (λ c. search needs)
+    element-copy-out-q cast-q (λ c. omega arith) next-image-requires cast-t21 array-set-from-mapping-2 (λ c. omega arith) (λ c. omega arith)
+    loop-again returns)

@@ -32,9 +32,6 @@ mul-has-bit c = record { fits = omega (arith, small c) }
 element-copy-out-has-bit : tie.Need-element-copy-out-has-bit Inv-loop μ-loop
 element-copy-out-has-bit c = small c
 
-has-bit-requires : tie.Need-has-bit-requires Inv-loop μ-loop
-has-bit-requires c κs = omega arith
-
 returns : tie.Need-returns Inv-loop μ-loop
 returns c =
     let m = c .before .before .before .before in
@@ -42,12 +39,6 @@ returns c =
     pick-here (m .loop .s) (small (c .before .before .before))
     (m .before .first-steps .ensures (m .loop .s) .0 (c .before .before .before .loop-test .taken), h .ensures .0 (rw (c .if1 .taken) tt))
     (λ j l x. m .loop .inv .1 j l (x .1))
-
-add-s : tie.Need-add-s Inv-loop μ-loop
-add-s c = omega arith
-
-loop-less : tie.Need-loop-less Inv-loop μ-loop
-loop-less c = omega arith
 
 loop-again : tie.Need-loop-again Inv-loop μ-loop
 loop-again c =
@@ -61,18 +52,5 @@ returns-2 c =
     nothing refl (λ j x. m .loop .inv .1 j (omega (arith, m .before .first-steps .ensures j .1 (x .0))) (x .1))
 
 pub first-image-spec : {M : Type 1} → statement M
-first-image-spec =
-    tie.close
-    (tie.spec
-    Inv-loop
-    μ-loop
-    first-steps-requires
-    loop-holds
-    mul-has-bit
-    element-copy-out-has-bit
-    has-bit-requires
-    returns
-    add-s
-    loop-less
-    loop-again
-    returns-2)
+first-image-spec = tie.close (tie.spec Inv-loop μ-loop first-steps-requires loop-holds mul-has-bit element-copy-out-has-bit (λ c κs. omega arith)
+    returns (λ c. omega arith) (λ c. omega arith) loop-again returns-2)

@@ -14,29 +14,11 @@ Inv-loop parents axes n fit t axis q s₀ s = (q < s) × (s ≤ n) × ((A : Shap
 abbrev μ-loop : tie.MeasureT-loop
 μ-loop parents axes n fit t axis q s₀ s = n - s
 
-add-s : tie.Need-add-s Inv-loop μ-loop
-add-s c = omega arith
-
 loop-holds : tie.Need-loop-holds Inv-loop μ-loop
 loop-holds c = (omega arith, omega arith, λ A l. sought-start A _ _ _ _)
 
-element-copy-out-p : tie.Need-element-copy-out-p Inv-loop μ-loop
-element-copy-out-p c = omega arith
-
 cast-p : tie.Need-cast-p Inv-loop μ-loop
 cast-p c = let m = c .before .before in omega (arith, m .before .pre .1 (m .loop .s) (omega arith) (omega arith))
-
-mul-takes : tie.Need-mul-takes Inv-loop μ-loop
-mul-takes c = omega arith
-
-element-copy-out-takes : tie.Need-element-copy-out-takes Inv-loop μ-loop
-element-copy-out-takes c = omega arith
-
-element-copy-out-takes-2 : tie.Need-element-copy-out-takes-2 Inv-loop μ-loop
-element-copy-out-takes-2 c = omega arith
-
-takes-requires : tie.Need-takes-requires Inv-loop μ-loop
-takes-requires c κs = omega arith
 
 returns : tie.Need-returns Inv-loop μ-loop
 returns c A l w =
@@ -45,12 +27,6 @@ returns c A l w =
     let f = c .before .takes .ensures .0 (rw (c .if1 .taken) tt) in
     sought-here A _ _ _ _ (l .valid) s (m .loop .inv .2 A l) w (omega (arith, l .count))
     (λ e. (l .parent s ∙ f .0 e .0, l .axis s ∙ f .0 e .1), f .1)
-
-add-s-2 : tie.Need-add-s-2 Inv-loop μ-loop
-add-s-2 c = omega arith
-
-loop-less : tie.Need-loop-less Inv-loop μ-loop
-loop-less c = omega arith
 
 loop-again : tie.Need-loop-again Inv-loop μ-loop
 loop-again c =
@@ -66,21 +42,5 @@ returns-2 : tie.Need-returns-2 Inv-loop μ-loop
 returns-2 c A l w = let m = c .before in sought-end A _ _ _ _ (l .valid) (m .loop .s) (m .loop .inv .2 A l) (omega (arith, l .count))
 
 pub next-image-spec : {M : Type 1} → statement M
-next-image-spec =
-    tie.close
-    (tie.spec
-    Inv-loop
-    μ-loop
-    add-s
-    loop-holds
-    element-copy-out-p
-    cast-p
-    mul-takes
-    element-copy-out-takes
-    element-copy-out-takes-2
-    takes-requires
-    returns
-    add-s-2
-    loop-less
-    loop-again
-    returns-2)
+next-image-spec = tie.close (tie.spec Inv-loop μ-loop (λ c. omega arith) loop-holds (λ c. omega arith) cast-p (λ c. omega arith) (λ c. omega arith)
+    (λ c. omega arith) (λ c κs. omega arith) returns (λ c. omega arith) (λ c. omega arith) loop-again returns-2)

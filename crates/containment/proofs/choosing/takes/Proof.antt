@@ -5,9 +5,6 @@ use Rattle.tables.proofs.Tests.{passed, failed, tells-eq}
 use Rattle.containment.proofs.choosing.takes.Statement.{statement}
 use Rattle.containment.proofs.choosing.takes.Tie as tie
 
-has-bit-requires : tie.Need-has-bit-requires
-has-bit-requires c κs = search needs
-
 returns : tie.Need-returns
 returns c = let h = c .before .has-bit in (λ z. absurd z, λ w. failed (h .result) (c .if1 .taken) (h .ensures .1 (w .1)))
 
@@ -24,4 +21,4 @@ returns-4 c =
     (λ z. (λ e. (c .if3 .left, t .says z), h .ensures .0 (passed (h .result) (c .before .before .if1 .left))), λ w. t .test (w .0 (omega arith) .1))
 
 pub takes-spec : {M : Type 1} → statement M
-takes-spec = tie.close (tie.spec has-bit-requires returns returns-2 returns-3 returns-4)
+takes-spec = tie.close (tie.spec (λ c κs. search needs) returns returns-2 returns-3 returns-4)

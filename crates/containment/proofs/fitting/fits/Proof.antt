@@ -4,14 +4,8 @@ use borrow.Author.Needs.{needs}
 use Rattle.containment.proofs.fitting.fits.Statement.{statement}
 use Rattle.containment.proofs.fitting.fits.Tie as tie
 
-labelled-requires : tie.Need-labelled-requires
-labelled-requires c κs = search needs
-
 returns : tie.Need-returns
 returns c = λ B t p. fits-none B _ _ _ _ (c .before .before .args .last) (c .before .labelled .ensures B t) (c .if1 .taken)
-
-lacking-requires : tie.Need-lacking-requires
-lacking-requires c κs = search needs
 
 returns-2 : tie.Need-returns-2
 returns-2 c = λ B t p. fits-last B _ _ _ _ _ (c .before .before .before .labelled .ensures B t) (c .before .lacking .ensures B p) _ (c .if2 .taken)
@@ -22,4 +16,4 @@ returns-3 c = λ B t p.
     rw (p .output) (fits-other B _ _ _ _ _ (g .before .before .labelled .ensures B t) (g .lacking .ensures B p) _ (c .before .if2 .left))
 
 pub fits-spec : {M : Type 1} → statement M
-fits-spec = tie.close (tie.spec labelled-requires returns lacking-requires returns-2 returns-3)
+fits-spec = tie.close (tie.spec (λ c κs. search needs) returns (λ c κs. search needs) returns-2 returns-3)

@@ -30,12 +30,6 @@ loop-holds c = (
   among-none 1 _,
 )
 
-one-bit-requires : tie.Need-one-bit-requires Inv-loop μ-loop
-one-bit-requires c κs = omega arith
-
-element-copy-out-s : tie.Need-element-copy-out-s Inv-loop μ-loop
-element-copy-out-s c = omega arith
-
 -- the step's parent is below 64
 few : (c : tie.In-loop Inv-loop μ-loop) → getD (c .before .before .args .t1 .parent) (c .before .loop .t) 0 < 64
 few c = parent-few (shapeOf (c .before .before .args .t1)) (c .before .before .pre .0) (c .before .loop .t) (c .before .loop .inv .0) (c .loop-test .taken)
@@ -55,17 +49,8 @@ mul-to-2 c = record { fits = omega (arith, few (c .before .before .before)) }
 element-write-to : tie.Need-element-write-to Inv-loop μ-loop
 element-write-to c = few (c .before .before .before)
 
-element-copy-out-if1 : tie.Need-element-copy-out-if1 Inv-loop μ-loop
-element-copy-out-if1 c = omega arith
-
 add-if2 : tie.Need-add-if2 Inv-loop μ-loop
 add-if2 c = record { fits = omega (arith, few (c .before .before .before .before .before)) }
-
-add-t : tie.Need-add-t Inv-loop μ-loop
-add-t c = omega arith
-
-loop-less : tie.Need-loop-less Inv-loop μ-loop
-loop-less c = omega arith
 
 loop-again : tie.Need-loop-again Inv-loop μ-loop
 loop-again c =
@@ -103,22 +88,5 @@ returns c =
     )
 
 pub gather-spec : {M : Type 1} → statement M
-gather-spec =
-    tie.close
-    (tie.spec
-    Inv-loop
-    μ-loop
-    loop-holds
-    one-bit-requires
-    element-copy-out-s
-    cast-s
-    mul-to
-    element-copy-out-to
-    mul-to-2
-    element-write-to
-    element-copy-out-if1
-    add-if2
-    add-t
-    loop-less
-    loop-again
-    returns)
+gather-spec = tie.close (tie.spec Inv-loop μ-loop loop-holds (λ c κs. omega arith) (λ c. omega arith) cast-s mul-to element-copy-out-to mul-to-2
+    element-write-to (λ c. omega arith) add-if2 (λ c. omega arith) (λ c. omega arith) loop-again returns)

@@ -19,42 +19,6 @@ abbrev μ-loop : tie.MeasureT-loop
 loop-holds : tie.Need-loop-holds Inv-loop μ-loop
 loop-holds c = (omega arith, omega arith, ap length (c .pre .1 .0), ap length (c .pre .1 .1), groups-none _ _ _ _)
 
-mul-x : tie.Need-mul-x Inv-loop μ-loop
-mul-x c = omega arith
-
-element-copy-out-x : tie.Need-element-copy-out-x Inv-loop μ-loop
-element-copy-out-x c = omega arith
-
-mul-x-2 : tie.Need-mul-x-2 Inv-loop μ-loop
-mul-x-2 c = omega arith
-
-element-copy-out-x-2 : tie.Need-element-copy-out-x-2 Inv-loop μ-loop
-element-copy-out-x-2 c = omega arith
-
-one-bit-requires : tie.Need-one-bit-requires Inv-loop μ-loop
-one-bit-requires c κs = omega arith
-
-mul-who : tie.Need-mul-who Inv-loop μ-loop
-mul-who c = omega arith
-
-element-write-who : tie.Need-element-write-who Inv-loop μ-loop
-element-write-who c = omega arith
-
-mul-kids : tie.Need-mul-kids Inv-loop μ-loop
-mul-kids c = omega arith
-
-element-write-kids : tie.Need-element-write-kids Inv-loop μ-loop
-element-write-kids c = omega arith
-
-add-k : tie.Need-add-k Inv-loop μ-loop
-add-k c = omega arith
-
-add-s : tie.Need-add-s Inv-loop μ-loop
-add-s c = omega arith
-
-loop-less : tie.Need-loop-less Inv-loop μ-loop
-loop-less c = omega arith
-
 loop-again : tie.Need-loop-again Inv-loop μ-loop
 loop-again c =
     let m = c .before .before .before .before in
@@ -85,23 +49,6 @@ returns c =
     rw e at (c .before .loop .inv .4)
 
 pub group-spec : {M : Type 1} → statement M
-group-spec =
-    tie.close
-    (tie.spec
-    Inv-loop
-    μ-loop
-    loop-holds
-    mul-x
-    element-copy-out-x
-    mul-x-2
-    element-copy-out-x-2
-    one-bit-requires
-    mul-who
-    element-write-who
-    mul-kids
-    element-write-kids
-    add-k
-    add-s
-    loop-less
-    loop-again
-    returns)
+group-spec = tie.close (tie.spec Inv-loop μ-loop loop-holds (λ c. omega arith) (λ c. omega arith) (λ c. omega arith) (λ c. omega arith)
+    (λ c κs. omega arith) (λ c. omega arith) (λ c. omega arith) (λ c. omega arith) (λ c. omega arith) (λ c. omega arith) (λ c. omega arith)
+    (λ c. omega arith) loop-again returns)

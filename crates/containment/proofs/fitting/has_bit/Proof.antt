@@ -6,9 +6,6 @@ use borrow.Author.Needs.{needs}
 use Rattle.containment.proofs.fitting.has_bit.Statement.{statement}
 use Rattle.containment.proofs.fitting.has_bit.Tie as tie
 
-shr-result : tie.Need-shr-result
-shr-result c = search needs
-
 returns : tie.Need-returns
 unfolding bit
 returns c =
@@ -16,4 +13,4 @@ returns c =
     (t .says, t .test)
 
 pub has-bit-spec : {M : Type 1} → statement M
-has-bit-spec = tie.close (tie.spec shr-result returns)
+has-bit-spec = tie.close (tie.spec (λ c. search needs) returns)

@@ -32,47 +32,8 @@ loop-holds c = (
 small : (c : tie.In-loop Inv-loop μ-loop) → getD (c .before .before .args .t1 .label) (c .before .loop .t) 0 < 65536
 small c = label-small (shapeOf (c .before .before .args .t1)) (c .before .before .pre .0) (c .before .loop .t) (c .loop-test .taken)
 
-mul-l : tie.Need-mul-l Inv-loop μ-loop
-mul-l c = omega arith
-
-element-copy-out-l : tie.Need-element-copy-out-l Inv-loop μ-loop
-element-copy-out-l c = omega arith
-
-cast-i : tie.Need-cast-i Inv-loop μ-loop
-cast-i c = omega arith
-
-cast-j : tie.Need-cast-j Inv-loop μ-loop
-cast-j c = omega arith
-
 cast-k : tie.Need-cast-k Inv-loop μ-loop
 cast-k c = record { fits = omega (arith, small (c .before)) }
-
-one-bit-requires : tie.Need-one-bit-requires Inv-loop μ-loop
-one-bit-requires c κs = omega arith
-
-mul-low : tie.Need-mul-low Inv-loop μ-loop
-mul-low c = omega arith
-
-element-copy-out-low : tie.Need-element-copy-out-low Inv-loop μ-loop
-element-copy-out-low c = omega arith
-
-mul-low-2 : tie.Need-mul-low-2 Inv-loop μ-loop
-mul-low-2 c = omega arith
-
-element-write-low : tie.Need-element-write-low Inv-loop μ-loop
-element-write-low c = omega arith
-
-mul-mid : tie.Need-mul-mid Inv-loop μ-loop
-mul-mid c = omega arith
-
-element-copy-out-mid : tie.Need-element-copy-out-mid Inv-loop μ-loop
-element-copy-out-mid c = omega arith
-
-mul-mid-2 : tie.Need-mul-mid-2 Inv-loop μ-loop
-mul-mid-2 c = omega arith
-
-element-write-mid : tie.Need-element-write-mid Inv-loop μ-loop
-element-write-mid c = omega arith
 
 mul-high : tie.Need-mul-high Inv-loop μ-loop
 mul-high c = record { fits = omega (arith, small (c .before .before .before .before)) }
@@ -85,12 +46,6 @@ mul-high-2 c = record { fits = omega (arith, small (c .before .before .before .b
 
 element-write-high : tie.Need-element-write-high Inv-loop μ-loop
 element-write-high c = omega (arith, small (c .before .before .before .before .before))
-
-add-t : tie.Need-add-t Inv-loop μ-loop
-add-t c = omega arith
-
-loop-less : tie.Need-loop-less Inv-loop μ-loop
-loop-less c = omega arith
 
 loop-again : tie.Need-loop-again Inv-loop μ-loop
 loop-again c =
@@ -114,31 +69,7 @@ returns c =
     labelled-all (shapeOf (c .before .before .args .t1)) _ _ _ (rw e at (i .4)) (rw e at (i .5)) (rw e at (i .6))
 
 pub label-steps-spec : {M : Type 1} → statement M
-label-steps-spec =
-    tie.close
-    (tie.spec
-    Inv-loop
-    μ-loop
-    loop-holds
-    mul-l
-    element-copy-out-l
-    cast-i
-    cast-j
-    cast-k
-    one-bit-requires
-    mul-low
-    element-copy-out-low
-    mul-low-2
-    element-write-low
-    mul-mid
-    element-copy-out-mid
-    mul-mid-2
-    element-write-mid
-    mul-high
-    element-copy-out-high
-    mul-high-2
-    element-write-high
-    add-t
-    loop-less
-    loop-again
-    returns)
+label-steps-spec = tie.close (tie.spec Inv-loop μ-loop loop-holds (λ c. omega arith) (λ c. omega arith) (λ c. omega arith) (λ c. omega arith) cast-k
+    (λ c κs. omega arith) (λ c. omega arith) (λ c. omega arith) (λ c. omega arith) (λ c. omega arith) (λ c. omega arith) (λ c. omega arith)
+    (λ c. omega arith) (λ c. omega arith) mul-high element-copy-out-high mul-high-2 element-write-high (λ c. omega arith) (λ c. omega arith)
+    loop-again returns)

@@ -4,11 +4,8 @@ use borrow.Author.Needs.{needs}
 use Rattle.containment.proofs.fitting.lacking.Statement.{statement}
 use Rattle.containment.proofs.fitting.lacking.Tie as tie
 
-reached-requires : tie.Need-reached-requires
-reached-requires c κs = search needs
-
 returns : tie.Need-returns
 returns c = λ B p. lacks B _ _ _ _ _ _ _ _ _ p _ (c .reached .ensures)
 
 pub lacking-spec : {M : Type 1} → statement M
-lacking-spec = tie.close (tie.spec reached-requires returns)
+lacking-spec = tie.close (tie.spec (λ c κs. search needs) returns)

@@ -6,21 +6,6 @@ use borrow.Author.Needs.{needs}
 use Rattle.containment.proofs.fitting.lift.Statement.{statement}
 use Rattle.containment.proofs.fitting.lift.Tie as tie
 
-label-steps-requires : tie.Need-label-steps-requires
-label-steps-requires c κs = search needs
-
-gather-requires : tie.Need-gather-requires
-gather-requires c κs = search needs
-
-group-requires : tie.Need-group-requires
-group-requires c κs = search needs
-
-cast-one-bit : tie.Need-cast-one-bit
-cast-one-bit c = search needs
-
-one-bit-requires : tie.Need-one-bit-requires
-one-bit-requires c κs = search needs
-
 raise-requires : tie.Need-raise-requires
 raise-requires c κs =
     let g = c .before .before .before .before .before .before .before .before in
@@ -46,6 +31,5 @@ returns c =
     })
 
 pub lift-spec : {M : Type 1} → statement M
-lift-spec =
-    tie.close
-    (tie.spec label-steps-requires gather-requires group-requires cast-one-bit one-bit-requires raise-requires returns)
+lift-spec = tie.close (tie.spec (λ c κs. search needs) (λ c κs. search needs) (λ c κs. search needs) (λ c. search needs) (λ c κs. search needs)
+    raise-requires returns)

@@ -23,46 +23,16 @@ Inv-loop m low mid high who kids fit₀ a under₀ output i₀ fit under i =
 abbrev μ-loop : tie.MeasureT-loop
 μ-loop m low mid high who kids fit₀ a under₀ output i₀ fit under i = i
 
-cast-output : tie.Need-cast-output Inv-loop μ-loop
-cast-output c = search needs
-
 loop-holds : tie.Need-loop-holds Inv-loop μ-loop
 loop-holds c =
     let v = c .pre .0 in
     (omega (arith, v .some), omega arith, ap length (c .pre .1 .1), refl, λ B t p. rw (c .pre .1 .1) (lift-start B _ (p .valid) v))
 
-sub-i : tie.Need-sub-i Inv-loop μ-loop
-sub-i c = omega arith
-
-mul-fits : tie.Need-mul-fits Inv-loop μ-loop
-mul-fits c = omega arith
-
-element-copy-out-fits : tie.Need-element-copy-out-fits Inv-loop μ-loop
-element-copy-out-fits c = omega arith
-
-mul-fits-2 : tie.Need-mul-fits-2 Inv-loop μ-loop
-mul-fits-2 c = omega arith
-
-element-copy-out-fits-2 : tie.Need-element-copy-out-fits-2 Inv-loop μ-loop
-element-copy-out-fits-2 c = omega arith
-
-mul-fits-3 : tie.Need-mul-fits-3 Inv-loop μ-loop
-mul-fits-3 c = omega arith
-
-array-read-fits : tie.Need-array-read-fits Inv-loop μ-loop
-array-read-fits c = omega arith
-
 fits-requires : tie.Need-fits-requires Inv-loop μ-loop
 fits-requires c κs = c .before .before .before .before .pre .1 .0
 
-element-copy-out-mask-for : tie.Need-element-copy-out-mask-for Inv-loop μ-loop
-element-copy-out-mask-for c = omega arith
-
 mask-for-requires : tie.Need-mask-for-requires Inv-loop μ-loop
 mask-for-requires c κs = tt
-
-element-copy-out-hand-up : tie.Need-element-copy-out-hand-up Inv-loop μ-loop
-element-copy-out-hand-up c = omega arith
 
 -- a step's parent comes before it
 up : (c : tie.After-hand-up-arg2 Inv-loop μ-loop)
@@ -77,9 +47,6 @@ cast-hand-up c = record { fits = omega (arith, up c) }
 
 hand-up-requires : tie.Need-hand-up-requires Inv-loop μ-loop
 hand-up-requires c κs = (up c, omega (arith, c .before .before .before .before .before .before .before .before .before .before .pre .0 .few))
-
-loop-less : tie.Need-loop-less Inv-loop μ-loop
-loop-less c = omega arith
 
 loop-again : tie.Need-loop-again Inv-loop μ-loop
 loop-again c =
@@ -104,20 +71,8 @@ loop-again c =
           (omega (arith, v .few, m .loop .inv .2)) (omega (arith, v .few, m .loop .inv .3))),
     )
 
-element-copy-out-fits-3 : tie.Need-element-copy-out-fits-3 Inv-loop μ-loop
-element-copy-out-fits-3 c = omega arith
-
-element-copy-out-fits-4 : tie.Need-element-copy-out-fits-4 Inv-loop μ-loop
-element-copy-out-fits-4 c = omega arith
-
-array-read-fits-2 : tie.Need-array-read-fits-2 Inv-loop μ-loop
-array-read-fits-2 c = omega arith
-
 fits-requires-2 : tie.Need-fits-requires-2 Inv-loop μ-loop
 fits-requires-2 c κs = c .before .before .before .before .pre .1 .0
-
-element-write-fit : tie.Need-element-write-fit Inv-loop μ-loop
-element-write-fit c = omega arith
 
 returns : tie.Need-returns Inv-loop μ-loop
 returns c = λ B t p.
@@ -131,31 +86,7 @@ returns c = λ B t p.
     (lift-fits B _ (p .valid) v 0 _ _ (eqb 0 (s .args .t1 .output .0)) (v .some) (o .says, o .test) u _ (c .fits3 .ensures B t p)) (omega (arith, m .loop .inv .2))
 
 pub raise-spec : {M : Type 1} → statement M
-raise-spec =
-    tie.close
-    (tie.spec
-    Inv-loop
-    μ-loop
-    cast-output
-    loop-holds
-    sub-i
-    mul-fits
-    element-copy-out-fits
-    mul-fits-2
-    element-copy-out-fits-2
-    mul-fits-3
-    array-read-fits
-    fits-requires
-    element-copy-out-mask-for
-    mask-for-requires
-    element-copy-out-hand-up
-    cast-hand-up
-    hand-up-requires
-    loop-less
-    loop-again
-    element-copy-out-fits-3
-    element-copy-out-fits-4
-    array-read-fits-2
-    fits-requires-2
-    element-write-fit
-    returns)
+raise-spec = tie.close (tie.spec Inv-loop μ-loop (λ c. search needs) loop-holds (λ c. omega arith) (λ c. omega arith) (λ c. omega arith)
+    (λ c. omega arith) (λ c. omega arith) (λ c. omega arith) (λ c. omega arith) fits-requires (λ c. omega arith) mask-for-requires (λ c. omega arith)
+    cast-hand-up hand-up-requires (λ c. omega arith) loop-again (λ c. omega arith) (λ c. omega arith) (λ c. omega arith) fits-requires-2
+    (λ c. omega arith) returns)

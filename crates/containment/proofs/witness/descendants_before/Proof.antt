@@ -23,23 +23,11 @@ loop-holds : tie.Need-loop-holds Inv-loop μ-loop
 unfolding descendants
 loop-holds c = (omega arith, refl)
 
-element-copy-out-d : tie.Need-element-copy-out-d Inv-loop μ-loop
-element-copy-out-d c = omega arith
-
-cast-d : tie.Need-cast-d Inv-loop μ-loop
-cast-d c = search needs
-
 add-d : tie.Need-add-d Inv-loop μ-loop
 add-d c =
     let m = c .before .before in
     let v = m .before .pre .0 in
     record { fits = omega (arith, descendants-le (shapeOf (m .before .args .t1)) (axes v) (m .loop .s) (omega arith), v .few, ⊎-elim {C = getD (m .before .args .t1 .axis) (m .loop .s) 0 ≤ 1} (λ e. omega arith) (λ e. omega arith) (v .steps (m .loop .s) (omega arith) .axis)) }
-
-add-s : tie.Need-add-s Inv-loop μ-loop
-add-s c = omega arith
-
-loop-less : tie.Need-loop-less Inv-loop μ-loop
-loop-less c = omega arith
 
 loop-again : tie.Need-loop-again Inv-loop μ-loop
 unfolding descendants
@@ -53,16 +41,5 @@ returns c =
     rw e at (c .before .loop .inv .1)
 
 pub descendants-before-spec : {M : Type 1} → statement M
-descendants-before-spec =
-    tie.close
-    (tie.spec
-    Inv-loop
-    μ-loop
-    loop-holds
-    element-copy-out-d
-    cast-d
-    add-d
-    add-s
-    loop-less
-    loop-again
-    returns)
+descendants-before-spec = tie.close (tie.spec Inv-loop μ-loop loop-holds (λ c. omega arith) (λ c. search needs) add-d (λ c. omega arith)
+    (λ c. omega arith) loop-again returns)

@@ -10,12 +10,6 @@ use borrow.Author.Needs.{needs}
 use Rattle.containment.proofs.witness.own_node.Statement.{statement}
 use Rattle.containment.proofs.witness.own_node.Tie as tie
 
-add-descendants-before : tie.Need-add-descendants-before
-add-descendants-before c = search needs
-
-descendants-before-requires : tie.Need-descendants-before-requires
-descendants-before-requires c κs = search needs
-
 -- the sum is the step's node, one of at most 128
 own : (c : tie.After-descendants-before) → c .before .args .s + c .descendants-before .result ≡ ownNode (shapeOf (c .before .args .a)) (c .before .args .s)
 unfolding ownNode
@@ -34,5 +28,4 @@ returns : tie.Need-returns
 returns c = (own c, omega (arith, few c, own c))
 
 pub own-node-spec : {M : Type 1} → statement M
-own-node-spec =
-    tie.close (tie.spec add-descendants-before descendants-before-requires add-result returns)
+own-node-spec = tie.close (tie.spec (λ c. search needs) (λ c κs. search needs) add-result returns)

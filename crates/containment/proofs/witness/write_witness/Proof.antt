@@ -123,25 +123,6 @@ returns c =
     (f .place, (f .parent-list, f .label-list))
 
 pub write-witness-spec : {M : Type 1} → statement M
-write-witness-spec =
-    tie.close
-    (tie.spec
-    Inv-loop
-    μ-loop
-    loop-holds
-    element-copy-out-hook-of
-    hook-of-requires
-    element-copy-out-write-step
-    mul-write-step
-    element-copy-out-write-step-2
-    write-step-requires
-    sub-nodes
-    cast-nodes
-    mul-nodes
-    array-write-nodes
-    add-s
-    loop-less
-    loop-again
-    same-length
-    same-length-2
-    returns)
+write-witness-spec = tie.close (tie.spec Inv-loop μ-loop loop-holds element-copy-out-hook-of hook-of-requires element-copy-out-write-step
+    mul-write-step element-copy-out-write-step-2 write-step-requires sub-nodes cast-nodes mul-nodes array-write-nodes add-s loop-less loop-again
+    same-length same-length-2 returns)

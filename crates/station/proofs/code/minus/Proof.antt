@@ -5,9 +5,6 @@ use borrow.Author.Needs.{needs}
 use Rattle.station.proofs.code.minus.Statement.{statement}
 use Rattle.station.proofs.code.minus.Tie as tie
 
-cast-result : tie.Need-cast-result
-cast-result c = search needs
-
 sub-result : tie.Need-sub-result
 sub-result c = minus-fits (c .args .k) (omega (arith, c .fits .k))
 
@@ -15,4 +12,4 @@ returns : tie.Need-returns
 returns c = minus-result (c .args .k) (omega (arith, c .fits .k))
 
 pub minus-spec : {M : Type 1} → statement M
-minus-spec = tie.close (tie.spec cast-result sub-result returns)
+minus-spec = tie.close (tie.spec (λ c. search needs) sub-result returns)

@@ -11,20 +11,8 @@ use borrow.Author.Needs.{needs}
 use Rattle.station.proofs.code.number_of.Statement.{statement}
 use Rattle.station.proofs.code.number_of.Tie as tie
 
-enum-known-a : tie.Need-enum-known-a
-enum-known-a c = search needs
-
 plus-requires : tie.Need-plus-requires
 plus-requires c κs = subst Small (c .before .a .given .1) (c .before .before .before .pre)
-
-enum-known-a-2 : tie.Need-enum-known-a-2
-enum-known-a-2 c = search needs
-
-refusal-number-requires : tie.Need-refusal-number-requires
-refusal-number-requires c κs = search needs
-
-minus-requires : tie.Need-minus-requires
-minus-requires c κs = search needs
 
 returns : tie.Need-returns
 returns c =
@@ -42,13 +30,5 @@ returns-2 c =
     (ap (λ z. toZ w64 (ofZ w64 z)) (c .minus .ensures) ∙ neg-result k (omega arith) ∙ ap (λ j. negℤ (pos j)) (c .before .refusal-number .ensures))
 
 pub number-of-spec : {M : Type 1} → statement M
-number-of-spec =
-    tie.close
-    (tie.spec
-    enum-known-a
-    plus-requires
-    enum-known-a-2
-    refusal-number-requires
-    minus-requires
-    returns
+number-of-spec = tie.close (tie.spec (λ c. search needs) plus-requires (λ c. search needs) (λ c κs. search needs) (λ c κs. search needs) returns
     returns-2)

@@ -8,11 +8,8 @@ use borrow.Author.Needs.{needs}
 use Rattle.station.proofs.code.plus.Statement.{statement}
 use Rattle.station.proofs.code.plus.Tie as tie
 
-cast-result : tie.Need-cast-result
-cast-result c = search needs
-
 returns : tie.Need-returns
 returns c = let g : c .args .n < 2 ^ hbits w64 = omega arith in toZ-pos w64 g
 
 pub plus-spec : {M : Type 1} → statement M
-plus-spec = tie.close (tie.spec cast-result returns)
+plus-spec = tie.close (tie.spec (λ c. search needs) returns)

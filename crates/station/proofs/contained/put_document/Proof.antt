@@ -21,33 +21,6 @@ put-head-requires c κs = (omega arith, omega arith)
 loop-holds : tie.Need-loop-holds Inv-loop μ-loop
 loop-holds c = let a = c .before .before .before .before .before .before .before .args in written-head (record { parents = now (a .parents); labels = now (a .labels) }) _ (now (a .room)) (c .before .before .put-head .ensures)
 
-mul-put-node : tie.Need-mul-put-node Inv-loop μ-loop
-mul-put-node c = omega arith
-
-add-put-node : tie.Need-add-put-node Inv-loop μ-loop
-add-put-node c = omega arith
-
-mul-put-node-2 : tie.Need-mul-put-node-2 Inv-loop μ-loop
-mul-put-node-2 c = omega arith
-
-shared-slice-read-put-node : tie.Need-shared-slice-read-put-node Inv-loop μ-loop
-shared-slice-read-put-node c = omega arith
-
-mul-put-node-3 : tie.Need-mul-put-node-3 Inv-loop μ-loop
-mul-put-node-3 c = omega arith
-
-shared-slice-read-put-node-2 : tie.Need-shared-slice-read-put-node-2 Inv-loop μ-loop
-shared-slice-read-put-node-2 c = omega arith
-
-put-node-requires : tie.Need-put-node-requires Inv-loop μ-loop
-put-node-requires c κs = omega arith
-
-add-i : tie.Need-add-i Inv-loop μ-loop
-add-i c = omega arith
-
-loop-less : tie.Need-loop-less Inv-loop μ-loop
-loop-less c = omega arith
-
 loop-again : tie.Need-loop-again Inv-loop μ-loop
 unfolding nodeBytes
 loop-again c =
@@ -65,22 +38,6 @@ returns c =
     written-all (record { parents = now (a .parents); labels = now (a .labels) }) _ (now (a .room)) (l .room) (l .i) (omega arith) (c .before .before .before .before .put-head .ensures) (l .inv)
 
 pub put-document-spec : {M : Type 1} → statement M
-put-document-spec =
-    tie.close
-    (tie.spec
-    Inv-loop
-    μ-loop
-    put-head-requires
-    loop-holds
-    mul-put-node
-    add-put-node
-    mul-put-node-2
-    shared-slice-read-put-node
-    mul-put-node-3
-    shared-slice-read-put-node-2
-    put-node-requires
-    add-i
-    loop-less
-    loop-again
-    same-length
+put-document-spec = tie.close (tie.spec Inv-loop μ-loop put-head-requires loop-holds (λ c. omega arith) (λ c. omega arith) (λ c. omega arith)
+    (λ c. omega arith) (λ c. omega arith) (λ c. omega arith) (λ c κs. omega arith) (λ c. omega arith) (λ c. omega arith) loop-again same-length
     returns)

@@ -9,15 +9,6 @@ use borrow.Author.Needs.{needs}
 use Rattle.station.proofs.documents.after_rules.Statement.{statement}
 use Rattle.station.proofs.documents.after_rules.Tie as tie
 
-check-document-requires : tie.Need-check-document-requires
-check-document-requires c κs = search needs
-
-enum-told : tie.Need-enum-told
-enum-told c = search needs
-
-enum-known-q : tie.Need-enum-known-q
-enum-known-q c = search needs
-
 returns : tie.Need-returns
 returns c =
     let a = c .before .before .before .before .before .args in
@@ -32,5 +23,4 @@ returns-2 c =
     record { says = ⊎-elim (λ w. inl (w .0, number-unique q BadDocument (w .1))) (λ w. absurd (w .1)) (v .0) }
 
 pub after-rules-spec : {M : Type 1} → statement M
-after-rules-spec =
-    tie.close (tie.spec check-document-requires enum-told enum-known-q returns returns-2)
+after-rules-spec = tie.close (tie.spec (λ c κs. search needs) (λ c. search needs) (λ c. search needs) returns returns-2)

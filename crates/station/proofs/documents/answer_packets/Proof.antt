@@ -19,21 +19,6 @@ asked x = x .before .before .before .before .read-asked .ensures .read (x .read 
 few : (x : tie.After-read) → x .read .given .0 .0 ≤ 2048
 few x = asked-few (asked x)
 
-slice-aggregate-read-asked : tie.Need-slice-aggregate-read-asked
-slice-aggregate-read-asked c = search needs
-
-slice-aggregate-read-asked-2 : tie.Need-slice-aggregate-read-asked-2
-slice-aggregate-read-asked-2 c = search needs
-
-read-asked-requires : tie.Need-read-asked-requires
-read-asked-requires c κs = search needs
-
-enum-known-read : tie.Need-enum-known-read
-enum-known-read c = search needs
-
-enum-known-read-2 : tie.Need-enum-known-read-2
-enum-known-read-2 c = search needs
-
 returns : tie.Need-returns
 returns c = answers-unread (c .before .before .before .before .before .read-asked .ensures) _ _ (c .before .read2 .given .0 .0) (c .before .read2 .given .1) refl
 
@@ -49,25 +34,10 @@ array-share-prefix-labels c = omega (arith, few (c .before .before), c .before .
 slice-aggregate-answers-2 : tie.Need-slice-aggregate-answers-2
 slice-aggregate-answers-2 c = simp length-take (omega (arith, few (c .before .before .before), c .before .before .before .before .before .before .before .read-asked .kept))
 
-slice-aggregate-answers-3 : tie.Need-slice-aggregate-answers-3
-slice-aggregate-answers-3 c = search needs
-
-slice-aggregate-answers-4 : tie.Need-slice-aggregate-answers-4
-slice-aggregate-answers-4 c = search needs
-
-answers-requires : tie.Need-answers-requires
-answers-requires c κs = search needs
-
-enum-known-c : tie.Need-enum-known-c
-enum-known-c c = search needs
-
 returns-2 : tie.Need-returns-2
 returns-2 c =
     let w = c .before .before .before .before .before .before .answers in
     answers-room (asked (c .before .before .before .before .before .before .before .before .before .before .before .before)) (w .last .1 .1 .1 .0) (w .last .1 .1 .1 .1 .0) (w .result) (w .ensures) (c .before .before .c .given .0 .0) (c .before .before .c .given .1) _ _ (λ m. omega arith) refl
-
-slice-aggregate-put-halves : tie.Need-slice-aggregate-put-halves
-slice-aggregate-put-halves c = search needs
 
 put-halves-requires : tie.Need-put-halves-requires
 put-halves-requires c κs =
@@ -75,12 +45,6 @@ put-halves-requires c κs =
     let w = c .before .before .before .before .before .before .before .before .answers in
     let k = answers-count (asked x) (w .last .1 .1 .1 .0) (w .last .1 .1 .1 .1 .0) (w .result) (w .ensures) (c .before .before .before .before .c .given .0 .0) (c .before .before .before .before .c .given .1) in
     (omega (arith, k, few x, w .kept), omega (arith, k, few x), omega (arith, k))
-
-enum-known-r : tie.Need-enum-known-r
-enum-known-r c = search needs
-
-same-length : tie.Need-same-length
-same-length c = search needs
 
 returns-3 : tie.Need-returns-3
 returns-3 c =
@@ -93,27 +57,7 @@ returns-4 c =
     answers-refused (asked (c .before .before .before .before .before .before .before .before .before .before .before)) (w .last .1 .1 .1 .0) (w .last .1 .1 .1 .1 .0) (w .result) (w .ensures) _ _ (c .before .r .given .0 .0) (c .before .r .given .1) refl
 
 pub answer-packets-spec : {M : Type 1} → statement M
-answer-packets-spec =
-    tie.close
-    (tie.spec
-    slice-aggregate-read-asked
-    slice-aggregate-read-asked-2
-    read-asked-requires
-    enum-known-read
-    enum-known-read-2
-    returns
-    array-share-prefix-parents
-    slice-aggregate-answers
-    array-share-prefix-labels
-    slice-aggregate-answers-2
-    slice-aggregate-answers-3
-    slice-aggregate-answers-4
-    answers-requires
-    enum-known-c
-    returns-2
-    slice-aggregate-put-halves
-    put-halves-requires
-    enum-known-r
-    same-length
-    returns-3
-    returns-4)
+answer-packets-spec = tie.close (tie.spec (λ c. search needs) (λ c. search needs) (λ c κs. search needs) (λ c. search needs) (λ c. search needs)
+    returns array-share-prefix-parents slice-aggregate-answers array-share-prefix-labels slice-aggregate-answers-2 (λ c. search needs)
+    (λ c. search needs) (λ c κs. search needs) (λ c. search needs) returns-2 (λ c. search needs) put-halves-requires (λ c. search needs)
+    (λ c. search needs) returns-3 returns-4)

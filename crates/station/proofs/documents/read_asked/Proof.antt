@@ -18,36 +18,12 @@ few x =
     let d = x .before .before .before .before .before .before .read-nodes in
     nodes-few (now (a .document)) (now (a .pattern)) (now (a .parents)) (now (a .labels)) (d .last .1 .0) (d .last .1 .1 .0) (d .result) (d .ensures) (x .n .given .0 .0) (x .n .given .1)
 
-read-pattern-requires : tie.Need-read-pattern-requires
-read-pattern-requires c κs = search needs
-
-read-nodes-requires : tie.Need-read-nodes-requires
-read-nodes-requires c κs = search needs
-
-enum-known-n : tie.Need-enum-known-n
-enum-known-n c = search needs
-
-enum-known-r : tie.Need-enum-known-r
-enum-known-r c = search needs
-
-same-length : tie.Need-same-length
-same-length c = search needs
-
-same-length-2 : tie.Need-same-length-2
-same-length-2 c = search needs
-
 returns : tie.Need-returns
 returns c =
     let s = c .before .before .before .before .before .before .before .before .before .before .before .before .before .before .before .before in
     let d = c .before .before .before .before .before .before .before .read-nodes in
     asked-no-nodes (now (s .args .document)) (now (s .args .pattern)) (now (s .args .parents)) (now (s .args .labels)) (d .last .1 .0) (d .last .1 .1 .0) (d .result) (d .ensures)
     (s .pre .0) (s .pre .1) (c .before .r .given .0 .0) _ (c .before .r .given .1)
-
-enum-told : tie.Need-enum-told
-enum-told c = search needs
-
-enum-known-told : tie.Need-enum-known-told
-enum-known-told c = search needs
 
 slice-reshare-prefix-after-rules : tie.Need-slice-reshare-prefix-after-rules
 slice-reshare-prefix-after-rules c = let x = c .before .before .before .before in omega (arith, few x, x .before .before .before .before .before .before .read-nodes .kept, entry x .pre .0)
@@ -61,15 +37,6 @@ slice-reshare-prefix-after-rules-2 c = let x = c .before .before .before .before
 slice-aggregate-after-rules-2 : tie.Need-slice-aggregate-after-rules-2
 slice-aggregate-after-rules-2 c = let x = c .before .before .before .before .before .before in simp length-take (omega (arith, few x, x .before .before .before .before .before .before .read-nodes .kept, entry x .pre .1))
 
-after-rules-requires : tie.Need-after-rules-requires
-after-rules-requires c κs = search needs
-
-same-length-3 : tie.Need-same-length-3
-same-length-3 c = search needs
-
-same-length-4 : tie.Need-same-length-4
-same-length-4 c = search needs
-
 returns-2 : tie.Need-returns-2
 returns-2 c =
     let x = c .before .before .before in
@@ -78,12 +45,6 @@ returns-2 c =
     let p = x .before .before .before .before .before .before .before .before .before .before .read-pattern in
     asked-both (now (a .document)) (now (a .pattern)) (now (a .parents)) (now (a .labels)) (d .last .1 .0) (d .last .1 .1 .0) (d .result) (d .ensures) (x .n .given .0 .0) (x .n .given .1)
     (p .result) (p .ensures) (c .enum-told .given .1)
-
-same-length-5 : tie.Need-same-length-5
-same-length-5 c = search needs
-
-same-length-6 : tie.Need-same-length-6
-same-length-6 c = search needs
 
 returns-3 : tie.Need-returns-3
 returns-3 c =
@@ -96,26 +57,7 @@ returns-3 c =
     (p .result) (p .ensures) (t .given .0 .0) (c .after-rules .result) (t .given .1) (c .after-rules .ensures)
 
 pub read-asked-spec : {M : Type 1} → statement M
-read-asked-spec =
-    tie.close
-    (tie.spec
-    read-pattern-requires
-    read-nodes-requires
-    enum-known-n
-    enum-known-r
-    same-length
-    same-length-2
-    returns
-    enum-told
-    enum-known-told
-    slice-reshare-prefix-after-rules
-    slice-aggregate-after-rules
-    slice-reshare-prefix-after-rules-2
-    slice-aggregate-after-rules-2
-    after-rules-requires
-    same-length-3
-    same-length-4
-    returns-2
-    same-length-5
-    same-length-6
-    returns-3)
+read-asked-spec = tie.close (tie.spec (λ c κs. search needs) (λ c κs. search needs) (λ c. search needs) (λ c. search needs) (λ c. search needs)
+    (λ c. search needs) returns (λ c. search needs) (λ c. search needs) slice-reshare-prefix-after-rules slice-aggregate-after-rules
+    slice-reshare-prefix-after-rules-2 slice-aggregate-after-rules-2 (λ c κs. search needs) (λ c. search needs) (λ c. search needs) returns-2
+    (λ c. search needs) (λ c. search needs) returns-3)

@@ -23,21 +23,6 @@ asked x = x .before .before .before .before .read-asked .ensures .read (x .read 
 few : (x : tie.After-read) → x .read .given .0 .0 ≤ 2048
 few x = asked-few (asked x)
 
-slice-aggregate-read-asked : tie.Need-slice-aggregate-read-asked
-slice-aggregate-read-asked c = search needs
-
-slice-aggregate-read-asked-2 : tie.Need-slice-aggregate-read-asked-2
-slice-aggregate-read-asked-2 c = search needs
-
-read-asked-requires : tie.Need-read-asked-requires
-read-asked-requires c κs = search needs
-
-enum-known-read : tie.Need-enum-known-read
-enum-known-read c = search needs
-
-enum-known-read-2 : tie.Need-enum-known-read-2
-enum-known-read-2 c = search needs
-
 returns : tie.Need-returns
 returns c = starts-unread (c .before .before .before .before .before .read-asked .ensures) (now (c .before .before .before .before .before .before .before .before .before .before .before .before .args .starts)) _ _ (c .before .read2 .given .0 .0) (c .before .read2 .given .1) refl
 
@@ -53,20 +38,11 @@ array-share-prefix-own-labels c = omega (arith, few (c .before .before), c .befo
 slice-aggregate-labels : tie.Need-slice-aggregate-labels
 slice-aggregate-labels c = simp length-take (omega (arith, few (c .before .before .before), c .before .before .before .before .before .before .before .read-asked .kept))
 
-after-rules-requires : tie.Need-after-rules-requires
-after-rules-requires c κs = search needs
-
 returns-2 : tie.Need-returns-2
 returns-2 c = let x = c .before .before .before .before .before in starts-odd (asked x) (now (entry x .args .starts)) _ _ (c .after-rules .result) (λ m. omega arith) (c .after-rules .ensures) refl
 
-after-rules-requires-2 : tie.Need-after-rules-requires-2
-after-rules-requires-2 c κs = search needs
-
 returns-3 : tie.Need-returns-3
 returns-3 c = let x = c .before .before .before .before .before .before in starts-many (asked x) (now (entry x .args .starts)) _ _ (c .after-rules2 .result) (omega arith) (c .after-rules2 .ensures) refl
-
-slice-aggregate-get-halves : tie.Need-slice-aggregate-get-halves
-slice-aggregate-get-halves c = search needs
 
 get-halves-requires : tie.Need-get-halves-requires
 get-halves-requires c κs = let x = c .before .before .before .before .before .before in (omega arith, omega (arith, few x), omega (arith, few x))
@@ -77,18 +53,6 @@ array-share-prefix-from c = omega (arith, few (c .before .before .before .before
 slice-aggregate-started : tie.Need-slice-aggregate-started
 slice-aggregate-started c = simp length-take (omega (arith, few (c .before .before .before .before .before .before .before .before .before), c .before .before .get-halves .kept))
 
-slice-aggregate-started-2 : tie.Need-slice-aggregate-started-2
-slice-aggregate-started-2 c = search needs
-
-slice-aggregate-started-3 : tie.Need-slice-aggregate-started-3
-slice-aggregate-started-3 c = search needs
-
-started-requires : tie.Need-started-requires
-started-requires c κs = search needs
-
-enum-known-c : tie.Need-enum-known-c
-enum-known-c c = search needs
-
 returns-4 : tie.Need-returns-4
 returns-4 c =
     let x = c .before .before .before .before .before .before .before .before .before .before .before .before .before .before .before .before .before .before in
@@ -96,9 +60,6 @@ returns-4 c =
     let w = c .before .before .before .before .before .before .started in
     starts-room (asked x) (now (entry x .args .starts)) (g .last .1 .1 .0) (w .last .1 .1 .1 .1 .0) (w .last .1 .1 .1 .1 .1 .0) (g .ensures) (omega (arith, c .before .before .before .before .before .before .before .before .before .before .before .before .before .before .if1 .left)) (w .result) (w .ensures)
     (c .before .before .c .given .0 .0) (c .before .before .c .given .1) _ _ (λ m. omega arith) refl
-
-slice-aggregate-put-halves : tie.Need-slice-aggregate-put-halves
-slice-aggregate-put-halves c = search needs
 
 put-halves-requires : tie.Need-put-halves-requires
 put-halves-requires c κs =
@@ -109,12 +70,6 @@ put-halves-requires c κs =
     starts-count (asked x) (now (entry x .args .starts)) (g .last .1 .1 .0) (w .last .1 .1 .1 .1 .0) (w .last .1 .1 .1 .1 .1 .0) (g .ensures) (omega (arith, c .before .before .before .before .before .before .before .before .before .before .before .before .before .before .before .before .if1 .left)) (w .result) (w .ensures)
     (c .before .before .before .before .c .given .0 .0) (c .before .before .before .before .c .given .1) in
     (omega (arith, k, few x, w .kept), omega (arith, k, few x), omega (arith, k))
-
-enum-known-r : tie.Need-enum-known-r
-enum-known-r c = search needs
-
-same-length : tie.Need-same-length
-same-length c = search needs
 
 returns-5 : tie.Need-returns-5
 returns-5 c =
@@ -133,35 +88,8 @@ returns-6 c =
     _ _ (c .before .r .given .0 .0) (c .before .r .given .1) refl
 
 pub start-packets-spec : {M : Type 1} → statement M
-start-packets-spec =
-    tie.close
-    (tie.spec
-    slice-aggregate-read-asked
-    slice-aggregate-read-asked-2
-    read-asked-requires
-    enum-known-read
-    enum-known-read-2
-    returns
-    array-share-prefix-own-parents
-    slice-aggregate-parents
-    array-share-prefix-own-labels
-    slice-aggregate-labels
-    after-rules-requires
-    returns-2
-    after-rules-requires-2
-    returns-3
-    slice-aggregate-get-halves
-    get-halves-requires
-    array-share-prefix-from
-    slice-aggregate-started
-    slice-aggregate-started-2
-    slice-aggregate-started-3
-    started-requires
-    enum-known-c
-    returns-4
-    slice-aggregate-put-halves
-    put-halves-requires
-    enum-known-r
-    same-length
-    returns-5
-    returns-6)
+start-packets-spec = tie.close (tie.spec (λ c. search needs) (λ c. search needs) (λ c κs. search needs) (λ c. search needs) (λ c. search needs)
+    returns array-share-prefix-own-parents slice-aggregate-parents array-share-prefix-own-labels slice-aggregate-labels (λ c κs. search needs)
+    returns-2 (λ c κs. search needs) returns-3 (λ c. search needs) get-halves-requires array-share-prefix-from slice-aggregate-started
+    (λ c. search needs) (λ c. search needs) (λ c κs. search needs) (λ c. search needs) returns-4 (λ c. search needs) put-halves-requires
+    (λ c. search needs) (λ c. search needs) returns-5 returns-6)

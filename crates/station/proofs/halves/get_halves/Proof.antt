@@ -22,44 +22,11 @@ loop-holds : tie.Need-loop-holds Inv-loop μ-loop
 unfolding blocks
 loop-holds c = search needs
 
-mul-half-of : tie.Need-mul-half-of Inv-loop μ-loop
-mul-half-of c = search needs
-
-shared-slice-read-half-of : tie.Need-shared-slice-read-half-of Inv-loop μ-loop
-shared-slice-read-half-of c = search needs
-
-mul-half-of-2 : tie.Need-mul-half-of-2 Inv-loop μ-loop
-mul-half-of-2 c = search needs
-
-add-half-of : tie.Need-add-half-of Inv-loop μ-loop
-add-half-of c = search needs
-
-shared-slice-read-half-of-2 : tie.Need-shared-slice-read-half-of-2 Inv-loop μ-loop
-shared-slice-read-half-of-2 c = search needs
-
-half-of-requires : tie.Need-half-of-requires Inv-loop μ-loop
-half-of-requires c κs = search needs
-
-mul-list : tie.Need-mul-list Inv-loop μ-loop
-mul-list c = search needs
-
-slice-write-list : tie.Need-slice-write-list Inv-loop μ-loop
-slice-write-list c = search needs
-
-add-i : tie.Need-add-i Inv-loop μ-loop
-add-i c = search needs
-
-loop-less : tie.Need-loop-less Inv-loop μ-loop
-loop-less c = search needs
-
 loop-again : tie.Need-loop-again Inv-loop μ-loop
 loop-again c =
     let l = c .before .before .before .before .loop in
     let a = c .before .before .before .before .before .before .before .args in
     (omega arith, simp length-set (l .inv .1), rw (l .inv .2) (column-next (λ j. half (now (a .bytes)) (2 * j)) (now (a .list)) (l .i) (c .half-of .result) (omega arith) (c .half-of .ensures)))
-
-same-length : tie.Need-same-length Inv-loop μ-loop
-same-length c = search needs
 
 returns : tie.Need-returns Inv-loop μ-loop
 returns c =
@@ -67,22 +34,6 @@ returns c =
     rw e at (c .before .loop .inv .2)
 
 pub get-halves-spec : {M : Type 1} → statement M
-get-halves-spec =
-    tie.close
-    (tie.spec
-    Inv-loop
-    μ-loop
-    loop-holds
-    mul-half-of
-    shared-slice-read-half-of
-    mul-half-of-2
-    add-half-of
-    shared-slice-read-half-of-2
-    half-of-requires
-    mul-list
-    slice-write-list
-    add-i
-    loop-less
-    loop-again
-    same-length
-    returns)
+get-halves-spec = tie.close (tie.spec Inv-loop μ-loop loop-holds (λ c. search needs) (λ c. search needs) (λ c. search needs) (λ c. search needs)
+    (λ c. search needs) (λ c κs. search needs) (λ c. search needs) (λ c. search needs) (λ c. search needs) (λ c. search needs) loop-again
+    (λ c. search needs) returns)

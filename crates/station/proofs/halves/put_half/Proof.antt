@@ -11,23 +11,8 @@ use borrow.Author.Needs.{needs}
 use Rattle.station.proofs.halves.put_half.Statement.{statement}
 use Rattle.station.proofs.halves.put_half.Tie as tie
 
-cast-out : tie.Need-cast-out
-cast-out c = search needs
-
-slice-write-out : tie.Need-slice-write-out
-slice-write-out c = search needs
-
-cast-out-2 : tie.Need-cast-out-2
-cast-out-2 c = search needs
-
-add-out : tie.Need-add-out
-add-out c = search needs
-
 slice-write-out-2 : tie.Need-slice-write-out-2
 slice-write-out-2 c = simp length-set (omega arith)
-
-same-length : tie.Need-same-length
-same-length c = search needs
 
 returns : tie.Need-returns
 returns c =
@@ -36,6 +21,5 @@ returns c =
     rw e (sets-eq (high (x .x) ∷ low (x .x) ∷ []) (now (x .out)) (x .at) (c .pre))
 
 pub put-half-spec : {M : Type 1} → statement M
-put-half-spec =
-    tie.close
-    (tie.spec cast-out slice-write-out cast-out-2 add-out slice-write-out-2 same-length returns)
+put-half-spec = tie.close (tie.spec (λ c. search needs) (λ c. search needs) (λ c. search needs) (λ c. search needs) slice-write-out-2
+    (λ c. search needs) returns)

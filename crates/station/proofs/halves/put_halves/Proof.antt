@@ -22,24 +22,6 @@ loop-holds : tie.Need-loop-holds Inv-loop μ-loop
 unfolding blocks
 loop-holds c = (omega arith, refl, refl)
 
-mul-put-half : tie.Need-mul-put-half Inv-loop μ-loop
-mul-put-half c = omega arith
-
-mul-put-half-2 : tie.Need-mul-put-half-2 Inv-loop μ-loop
-mul-put-half-2 c = omega arith
-
-shared-slice-read-put-half : tie.Need-shared-slice-read-put-half Inv-loop μ-loop
-shared-slice-read-put-half c = omega arith
-
-put-half-requires : tie.Need-put-half-requires Inv-loop μ-loop
-put-half-requires c κs = omega arith
-
-add-k : tie.Need-add-k Inv-loop μ-loop
-add-k c = omega arith
-
-loop-less : tie.Need-loop-less Inv-loop μ-loop
-loop-less c = omega arith
-
 loop-again : tie.Need-loop-again Inv-loop μ-loop
 unfolding halfBytes
 loop-again c =
@@ -56,18 +38,5 @@ returns c =
     rw e at (c .before .loop .inv .2)
 
 pub put-halves-spec : {M : Type 1} → statement M
-put-halves-spec =
-    tie.close
-    (tie.spec
-    Inv-loop
-    μ-loop
-    loop-holds
-    mul-put-half
-    mul-put-half-2
-    shared-slice-read-put-half
-    put-half-requires
-    add-k
-    loop-less
-    loop-again
-    same-length
-    returns)
+put-halves-spec = tie.close (tie.spec Inv-loop μ-loop loop-holds (λ c. omega arith) (λ c. omega arith) (λ c. omega arith) (λ c κs. omega arith)
+    (λ c. omega arith) (λ c. omega arith) loop-again same-length returns)

@@ -10,30 +10,12 @@ use borrow.Author.Needs.{needs}
 use Rattle.station.proofs.lists.list_started.Statement.{statement}
 use Rattle.station.proofs.lists.list_started.Tie as tie
 
-read-pattern-requires : tie.Need-read-pattern-requires
-read-pattern-requires c κs = search needs
-
-enum-known-read : tie.Need-enum-known-read
-enum-known-read c = search needs
-
 returns : tie.Need-returns
 returns c =
     let x = c .before .before .before .read-pattern in
     let a = c .before .before .before .before .before .before .before .before .before .before .args in
     let h = subst (λ r. Decided (patternChecks (now (a .pattern))) r (x .result .pattern ≡ packetPattern (now (a .pattern))) (x .result .pattern ≡ zeroPattern)) (c .before .read .given .1) (x .ensures) in
     started-unread (record { parents = now (a .parents); labels = now (a .labels) }) (now (a .pattern)) (now (a .list)) (now (a .work)) _ _ (now (a .starts)) (c .before .read .given .0 .0) (h .0) refl refl
-
-enum-told : tie.Need-enum-told
-enum-told c = search needs
-
-started-requires : tie.Need-started-requires
-started-requires c κs = search needs
-
-same-length : tie.Need-same-length
-same-length c = search needs
-
-same-length-2 : tie.Need-same-length-2
-same-length-2 c = search needs
 
 returns-2 : tie.Need-returns-2
 returns-2 c =
@@ -44,14 +26,5 @@ returns-2 c =
     started-read (record { parents = now (a .parents); labels = now (a .labels) }) (now (a .pattern)) (now (a .list)) (now (a .work)) (w .last .1 .1 .1 .1 .0) (w .last .1 .1 .1 .1 .1 .0) (now (a .starts)) (x .result .pattern) (w .result) h (w .ensures)
 
 pub list-started-spec : {M : Type 1} → statement M
-list-started-spec =
-    tie.close
-    (tie.spec
-    read-pattern-requires
-    enum-known-read
-    returns
-    enum-told
-    started-requires
-    same-length
-    same-length-2
-    returns-2)
+list-started-spec = tie.close (tie.spec (λ c κs. search needs) (λ c. search needs) returns (λ c. search needs) (λ c κs. search needs)
+    (λ c. search needs) (λ c. search needs) returns-2)

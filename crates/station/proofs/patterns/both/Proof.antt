@@ -6,12 +6,6 @@ use borrow.Author.Needs.{needs}
 use Rattle.station.proofs.patterns.both.Statement.{statement}
 use Rattle.station.proofs.patterns.both.Tie as tie
 
-enum-told : tie.Need-enum-told
-enum-told c = search needs
-
-enum-known-first : tie.Need-enum-known-first
-enum-known-first c = search needs
-
 returns : tie.Need-returns
 returns c = search needs
 
@@ -19,4 +13,4 @@ returns-2 : tie.Need-returns-2
 returns-2 c = subst (λ x. Refused (c .before .first .given .0 .0) ≡ bothOf x (c .before .before .before .args .second)) (sym (c .before .first .given .1)) refl
 
 pub both-spec : {M : Type 1} → statement M
-both-spec = tie.close (tie.spec enum-told enum-known-first returns returns-2)
+both-spec = tie.close (tie.spec (λ c. search needs) (λ c. search needs) returns returns-2)

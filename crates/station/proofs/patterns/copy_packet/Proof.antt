@@ -11,27 +11,12 @@ use borrow.Author.Needs.{needs}
 use Rattle.station.proofs.patterns.copy_packet.Statement.{statement}
 use Rattle.station.proofs.patterns.copy_packet.Tie as tie
 
-read-pattern-requires : tie.Need-read-pattern-requires
-read-pattern-requires c κs = search needs
-
-enum-known-read : tie.Need-enum-known-read
-enum-known-read c = search needs
-
 returns : tie.Need-returns
 returns c =
     let x = c .before .before .before .read-pattern in
     let a = c .before .before .before .before .before .before .args in
     let h = subst (λ r. Decided (patternChecks (now (a .pattern))) r (x .result .pattern ≡ packetPattern (now (a .pattern))) (x .result .pattern ≡ zeroPattern)) (c .before .read .given .1) (x .ensures) in
     copy-refused _ _ _ (c .before .read .given .0 .0) (h .0) refl
-
-enum-told : tie.Need-enum-told
-enum-told c = search needs
-
-write-pattern-requires : tie.Need-write-pattern-requires
-write-pattern-requires c κs = search needs
-
-same-length : tie.Need-same-length
-same-length c = search needs
 
 returns-2 : tie.Need-returns-2
 returns-2 c =
@@ -42,13 +27,5 @@ returns-2 c =
     copied (now (a .pattern)) (now (a .room)) (w .last .1 .0) (x .result) (λ k. omega (arith, c .before .before .before .before .before .before .before .before .shared-slice-known .given k)) h (w .result) (w .ensures)
 
 pub copy-packet-spec : {M : Type 1} → statement M
-copy-packet-spec =
-    tie.close
-    (tie.spec
-    read-pattern-requires
-    enum-known-read
-    returns
-    enum-told
-    write-pattern-requires
-    same-length
-    returns-2)
+copy-packet-spec = tie.close (tie.spec (λ c κs. search needs) (λ c. search needs) returns (λ c. search needs) (λ c κs. search needs)
+    (λ c. search needs) returns-2)

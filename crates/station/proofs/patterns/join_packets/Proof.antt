@@ -14,12 +14,6 @@ both x =
     let t = x .before .before .read-two in
     subst (λ r. ReadsTwo (now (x .before .before .before .before .before .before .args .view)) (now (x .before .before .before .before .before .before .args .compensation)) r (t .result .first) (t .result .second)) (x .enum-told .given .1) (t .ensures)
 
-read-two-requires : tie.Need-read-two-requires
-read-two-requires c κs = search needs
-
-enum-known-read : tie.Need-enum-known-read
-enum-known-read c = search needs
-
 returns : tie.Need-returns
 returns c =
     let t = c .before .before .before .read-two in
@@ -27,28 +21,10 @@ returns c =
     let h = subst (λ r. ReadsTwo (now (a .view)) (now (a .compensation)) r (t .result .first) (t .result .second)) (c .before .read .given .1) (t .ensures) in
     joins-unread _ _ _ _ _ _ (c .before .read .given .0 .0) h refl
 
-enum-told : tie.Need-enum-told
-enum-told c = search needs
-
-join-requires : tie.Need-join-requires
-join-requires c κs = search needs
-
-enum-known-answer : tie.Need-enum-known-answer
-enum-known-answer c = search needs
-
 returns-2 : tie.Need-returns-2
 returns-2 c =
     let j = c .before .before .before .join in
     join-refused _ _ _ _ _ _ (j .result) (both (c .before .before .before .before)) (j .ensures) (c .before .answer .given .0 .0) (c .before .answer .given .1) refl
-
-enum-told-2 : tie.Need-enum-told-2
-enum-told-2 c = search needs
-
-write-pattern-requires : tie.Need-write-pattern-requires
-write-pattern-requires c κs = search needs
-
-same-length : tie.Need-same-length
-same-length c = search needs
 
 returns-3 : tie.Need-returns-3
 returns-3 c =
@@ -57,17 +33,5 @@ returns-3 c =
     join-written _ _ (now (c .before .before .before .before .before .before .before .before .before .before .before .before .before .args .room)) (w .last .1 .0) _ _ (j .result) (both (c .before .before .before .before .before .before .before)) (j .ensures) (w .result) (c .before .before .before .before .enum-told2 .given .1) (w .ensures)
 
 pub join-packets-spec : {M : Type 1} → statement M
-join-packets-spec =
-    tie.close
-    (tie.spec
-    read-two-requires
-    enum-known-read
-    returns
-    enum-told
-    join-requires
-    enum-known-answer
-    returns-2
-    enum-told-2
-    write-pattern-requires
-    same-length
-    returns-3)
+join-packets-spec = tie.close (tie.spec (λ c κs. search needs) (λ c. search needs) returns (λ c. search needs) (λ c κs. search needs)
+    (λ c. search needs) returns-2 (λ c. search needs) (λ c κs. search needs) (λ c. search needs) returns-3)

@@ -7,15 +7,6 @@ use borrow.Author.Needs.{needs}
 use Rattle.station.proofs.patterns.read_two.Statement.{statement}
 use Rattle.station.proofs.patterns.read_two.Tie as tie
 
-read-pattern-requires : tie.Need-read-pattern-requires
-read-pattern-requires c κs = search needs
-
-read-pattern-requires-2 : tie.Need-read-pattern-requires-2
-read-pattern-requires-2 c κs = search needs
-
-both-requires : tie.Need-both-requires
-both-requires c κs = search needs
-
 returns : tie.Need-returns
 returns c =
     let x = c .before .before .before .before .read-pattern in
@@ -25,5 +16,4 @@ returns c =
     (read-two (now (a .a)) (now (a .b)) (x .result) (y .result) (x .ensures) (y .ensures))
 
 pub read-two-spec : {M : Type 1} → statement M
-read-two-spec =
-    tie.close (tie.spec read-pattern-requires read-pattern-requires-2 both-requires returns)
+read-two-spec = tie.close (tie.spec (λ c κs. search needs) (λ c κs. search needs) (λ c κs. search needs) returns)

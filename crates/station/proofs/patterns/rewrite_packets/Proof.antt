@@ -14,39 +14,12 @@ both x =
     let t = x .before .before .read-two in
     subst (λ r. ReadsTwo (now (x .before .before .before .before .before .before .args .query)) (now (x .before .before .before .before .before .before .args .view)) r (t .result .first) (t .result .second)) (x .enum-told .given .1) (t .ensures)
 
-read-two-requires : tie.Need-read-two-requires
-read-two-requires c κs = search needs
-
-enum-known-read : tie.Need-enum-known-read
-enum-known-read c = search needs
-
 returns : tie.Need-returns
 returns c =
     let t = c .before .before .before .read-two in
     let a = c .before .before .before .before .before .before .before .args in
     let h = subst (λ r. ReadsTwo (now (a .query)) (now (a .view)) r (t .result .first) (t .result .second)) (c .before .read .given .1) (t .ensures) in
     rewrites-unread _ _ _ _ _ _ (c .before .read .given .0 .0) h refl
-
-enum-told : tie.Need-enum-told
-enum-told c = search needs
-
-rewrite-requires : tie.Need-rewrite-requires
-rewrite-requires c κs = search needs
-
-enum-told-2 : tie.Need-enum-told-2
-enum-told-2 c = search needs
-
-write-pattern-requires : tie.Need-write-pattern-requires
-write-pattern-requires c κs = search needs
-
-enum-told-3 : tie.Need-enum-told-3
-enum-told-3 c = search needs
-
-enum-known-answer : tie.Need-enum-known-answer
-enum-known-answer c = search needs
-
-same-length : tie.Need-same-length
-same-length c = search needs
 
 returns-2 : tie.Need-returns-2
 returns-2 c =
@@ -65,19 +38,5 @@ returns-4 c =
     rewrite-refused _ _ _ _ _ _ (j .result) (both (c .before .before .before .before)) (j .ensures) (c .before .answer .given .0 .0) (c .before .answer .given .1) refl
 
 pub rewrite-packets-spec : {M : Type 1} → statement M
-rewrite-packets-spec =
-    tie.close
-    (tie.spec
-    read-two-requires
-    enum-known-read
-    returns
-    enum-told
-    rewrite-requires
-    enum-told-2
-    write-pattern-requires
-    enum-told-3
-    enum-known-answer
-    same-length
-    returns-2
-    returns-3
-    returns-4)
+rewrite-packets-spec = tie.close (tie.spec (λ c κs. search needs) (λ c. search needs) returns (λ c. search needs) (λ c κs. search needs)
+    (λ c. search needs) (λ c κs. search needs) (λ c. search needs) (λ c. search needs) (λ c. search needs) returns-2 returns-3 returns-4)
