@@ -45,7 +45,8 @@ module _ (A : Shape) (d : Document) (First : ℕ → Type 0) (va : ValidShape A)
       (w .0, whole-placed (w .0) s (omega (arith, below-lt (shape-ordered va) (child c), c .here)) (w .1), w .2)
 
   placed-down : (i j s t : ℕ) → Child (A .tree) s t → PlacedAt A d First j s → Goes (nodesOf d) (A .axis t) j i → FitsAt A d i t → PlacedAt A d First i t
-  placed-down i j s t c h g f = whole-placed i t (f .0) (whole-down (task A (nodesOf d)) First (shape-ordered va) t s i j c (placed-whole j s h) g (fits-able A d va t i f .1))
+  placed-down i j s t c h g f = whole-placed i t (f .0) (whole-down (task A (nodesOf d)) First (shape-ordered va) t s i j c (placed-whole j s h) g
+      (fits-able A d va t i f .1))
 
   axis-one : (t a : ℕ) → t < A .tree .size → A .axis t ≡ suc a → A .axis t ≡ 1
   axis-one t a l e = ⊎-elim (λ z. absurd (omega arith)) (λ z. z) (va .steps t l .axis)
@@ -74,7 +75,8 @@ module _ (A : Shape) (d : Document) (First : ℕ → Type 0) (va : ValidShape A)
       placed-fits i t h,
       ⊎-elim
           (λ z. inr (z, placed-first i (subst (PlacedAt A d First i) z h)))
-          (λ q. let k = hangs t q (h .0) in let u = placed-up i (A .tree .parent t) t k h in inl (above t (A .tree .parent t) (u .0) (A .axis t) refl (h .0) k (u .2) (u .1)))
+          (λ q. let k = hangs t q (h .0) in let u = placed-up i (A .tree .parent t) t k h in inl
+          (above t (A .tree .parent t) (u .0) (A .axis t) refl (h .0) k (u .2) (u .1)))
           (eq-zero-or-pos t),
     )
 
@@ -88,8 +90,18 @@ module _ (A : Shape) (d : Document) (First : ℕ → Type 0) (va : ValidShape A)
 
       passed-allowed : (t : ℕ) → Passed t → Allowed A d First i t
       passed-allowed t h = ⊎-elim
-          (λ w. (w .0, w .2, ⊎-elim (λ e. inl (e, mw .only (w .0) (w .1))) (λ e. inr (e, (i, inl refl, mw .only (w .0) (w .1)))) (va .steps t (w .2 .here) .axis)))
-          (λ w. (w .0 .0, w .0 .1, ⊎-elim (λ x. absurd (omega (arith, x .0, w .1))) (λ x. inr (x .0, (x .1 .0, inr (from-child (x .1 .1) c), x .1 .2))) (w .0 .2))) h
+          (λ w. (
+            w .0,
+            w .2,
+            ⊎-elim (λ e. inl (e, mw .only (w .0) (w .1))) (λ e. inr (e, (i, inl refl, mw .only (w .0) (w .1))))
+                (va .steps t (w .2 .here) .axis),
+          ))
+          (λ w. (
+            w .0 .0,
+            w .0 .1,
+            ⊎-elim (λ x. absurd (omega (arith, x .0, w .1))) (λ x. inr (x .0, (x .1 .0, inr (from-child (x .1 .1) c), x .1 .2)))
+                (w .0 .2),
+          )) h
 
       allowed-passed : (t : ℕ) → Allowed A d First i t → Passed t
       allowed-passed t h = ⊎-elim
@@ -120,15 +132,26 @@ module _ (A : Shape) (d : Document) (First : ℕ → Type 0) (va : ValidShape A)
 
   pub root-allowed : (whole : ℕ) → Marks whole (PlacedAt A d First 0) → (x : ℕ) → Marks x (Led (ToChildren A) whole) → Marks x (Allowed A d First 0)
   root-allowed whole mw x m = marks-to x (Led (ToChildren A) whole) (Allowed A d First 0)
-      (λ t w. (w .0, w .2, ⊎-elim (λ e. inl (e, mw .only (w .0) (w .1))) (λ e. inr (e, (0, inl refl, mw .only (w .0) (w .1)))) (va .steps t (w .2 .here) .axis)))
-      (λ t h. (h .0, mw .put (h .0) (⊎-elim (λ x. x .1) (λ x. subst (λ (y : ℕ). PlacedAt A d First y (h .0)) (top (x .1 .0) (x .1 .1)) (x .1 .2)) (h .2)), h .1))
+      (λ t w. (
+        w .0,
+        w .2,
+        ⊎-elim (λ e. inl (e, mw .only (w .0) (w .1))) (λ e. inr (e, (0, inl refl, mw .only (w .0) (w .1))))
+            (va .steps t (w .2 .here) .axis),
+      ))
+      (λ t h. (
+        h .0,
+        mw .put (h .0) (⊎-elim (λ x. x .1) (λ x. subst (λ (y : ℕ). PlacedAt A d First y (h .0)) (top (x .1 .0) (x .1 .1)) (x .1 .2)) (h .2)),
+        h
+            .1,
+      ))
       m
     where
       top : (a : ℕ) → From (nodesOf d .tree) a 0 → a ≡ 0
       top a w = omega (arith, from-le (document-ordered vd) a 0 w)
 
   -- before the first turn
-  pub down-start : (seed : ℕ) (before work allowed : List ℕ) → Upward A d seed 0 before work → ((i : ℕ) → i < nodeCount d → Marks (getD work (2 * i + 1) 0) (λ s. (s ≡ 0) × First i))
+  pub down-start : (seed : ℕ) (before work allowed : List ℕ) → Upward A d seed 0 before work →
+      ((i : ℕ) → i < nodeCount d → Marks (getD work (2 * i + 1) 0) (λ s. (s ≡ 0) × First i))
       → Downward A d First 0 before work allowed
   down-start seed before work allowed u m = record {
     same-length = u .same-length;
@@ -148,7 +171,8 @@ module _ (A : Shape) (d : Document) (First : ℕ → Type 0) (va : ValidShape A)
   down-turn i whole x before work after allowed allowed′ l u mw mx e a r b s = record {
     same-length = e ∙ u .same-length;
     fits = λ k m. rw (r (2 * k) (λ z. omega arith)) (u .fits k m);
-    placed = λ k m. below-or-at m (λ h. rw (r (2 * k + 1) (λ z. omega arith)) (u .placed k h)) (λ z. subst (λ (y : ℕ). Marks (getD after (2 * y + 1) 0) (PlacedAt A d First y)) (sym z) (rw a mw));
+    placed = λ k m. below-or-at m (λ h. rw (r (2 * k + 1) (λ z. omega arith)) (u .placed k h))
+        (λ z. subst (λ (y : ℕ). Marks (getD after (2 * y + 1) 0) (PlacedAt A d First y)) (sym z) (rw a mw));
     starts = λ k m n. rw (r (2 * k + 1) (λ z. omega arith)) (u .starts k (omega arith) n);
     allows = λ k m. below-or-at m (λ h. rw (s k h) (u .allows k h)) (λ z. subst (λ (y : ℕ). Marks (getD allowed′ y 0) (Allowed A d First y)) (sym z) (rw b mx));
     rest = λ q m. r q (λ z. omega arith) ∙ u .rest q m;

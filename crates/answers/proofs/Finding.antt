@@ -17,14 +17,21 @@ use Rattle.answers.specs.Passes.{Upward, Marked, Ready}
 use Rattle.answers.proofs.Tested.{isIn, tells-in}
 
 -- what the list held before the second pass matters only in its length and past the nodes' entries
-pub found-before : (A : Shape) (d : Document) (First : ℕ → Type 0) (list₀ work₀ w : List ℕ) (c : ℕ) (list work : List ℕ) → length w ≡ length work₀ → ((q : ℕ) → 2 * nodeCount d ≤ q → getD w q 0 ≡ getD work₀ q 0)
+pub found-before : (A : Shape) (d : Document) (First : ℕ → Type 0) (list₀ work₀ w : List ℕ) (c : ℕ) (list work : List ℕ) → length w ≡ length work₀ →
+    ((q : ℕ) → 2 * nodeCount d ≤ q → getD w q 0 ≡ getD work₀ q 0)
     → Found A d First list₀ w c list work → Found A d First list₀ work₀ c list work
 found-before A d First list₀ work₀ w c list work e r h = record {
   answers = h .answers;
   lists = h .lists;
   count = h .count;
   written = h .written;
-  working = record { same-length = h .working .same-length ∙ e; fits = h .working .fits; placed = h .working .placed; rest = λ q l. h .working .rest q l ∙ r q l };
+  working = record {
+    same-length = h .working .same-length ∙ e;
+    fits = h .working .fits;
+    placed = h .working .placed;
+    rest = λ q l. h .working .rest q l ∙ r q
+        l;
+  };
 }
 
 module _ (A : Shape) (d : Document) (va : ValidShape A) (vd : ValidDocument d) (before work : List ℕ) (room : 2 * nodeCount d ≤ length before) where

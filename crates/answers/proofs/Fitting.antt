@@ -123,4 +123,5 @@ module _ (A : Shape) (v : ValidShape A) (c d : ℕ) where
 pub fit-mask : (A : Shape) (low high lack : List ℕ) (ch de near forks l c d : ℕ) → PlanOf A low high lack ch de near forks → l < 65536
     → Marks (fitMask low high lack ch de near forks l c d) (FitsBy A l c d)
 fit-mask A low high lack ch de near forks l c d p small =
-    fit A (p .valid) c d ch de (p .child-steps) (p .descendant-steps) low high lack l (p .labelled) (p .lacking) small near forks (p .near-steps) (p .fork-steps)
+    fit A (p .valid) c d ch de (p .child-steps) (p .descendant-steps) low high lack l (p .labelled) (p .lacking) small near forks (p .near-steps)
+    (p .fork-steps)

@@ -1,4 +1,5 @@
--- The tables that a loop over the steps fills: the steps by the bytes of their label, the parent of each, and those on which another than the next hangs. Assumes nothing.
+-- The tables that a loop over the steps fills: the steps by the bytes of their label, the parent of each, and those on which another than the next hangs.
+-- Assumes nothing.
 use Prim.Native.Nat.{ℕ, _+_, _/_, _%_, _^_, _<_}
 use mathlib.Core.Path.{_≡_, refl, sym, ap, _∙_, subst}
 use mathlib.Core.Logic.{_≢_}
@@ -60,7 +61,10 @@ module _ (f : ℕ → ℕ) where
 
   -- k is the next one after its number
   pub forking-skip : (k x : ℕ) → f k + 1 ≡ k → Forking f k x → Forking f (k + 1) x
-  forking-skip k x e m = record { has = λ u l h n. elim (ℕ-discrete u k) [ yes z ↦ absurd (n (subst (λ y. f y + 1 ≡ y) (sym z) e)) | no w ↦ m .has u l (omega arith) n ] }
+  forking-skip k x e m = record {
+    has = λ u l h n. elim (ℕ-discrete u k)
+        [ yes z ↦ absurd (n (subst (λ y. f y + 1 ≡ y) (sym z) e)) | no w ↦ m .has u l (omega arith) n ];
+  }
 
   -- the number of k is put
   pub forking-more : (k x : ℕ) → Forking f k x → Forking f (k + 1) (bitOr x (2 ^ f k))

@@ -34,7 +34,8 @@ pub started-here : (A : Shape) (d : Document) (First : ℕ → Type 0) → Valid
 started-here A d First va i r = subst (λ (x : ℕ). x < nodeCount d) (r .at) (r .sends .takes (A .output) (va .output) .here)
 
 -- what a call has found does not depend on how the start is said
-pub found-first : (A : Shape) (d : Document) (First Other : ℕ → Type 0) → ValidShape A → ((i : ℕ) → i < nodeCount d → First i ↔ Other i) → (list₀ work₀ : List ℕ) (c : ℕ) (list work : List ℕ)
+pub found-first : (A : Shape) (d : Document) (First Other : ℕ → Type 0) → ValidShape A → ((i : ℕ) → i < nodeCount d → First i ↔ Other i) →
+    (list₀ work₀ : List ℕ) (c : ℕ) (list work : List ℕ)
     → Found A d First list₀ work₀ c list work → Found A d Other list₀ work₀ c list work
 found-first A d First Other va e list₀ work₀ c list work h = record {
   answers = h .answers;
@@ -44,7 +45,8 @@ found-first A d First Other va e list₀ work₀ c list work h = record {
   working = record {
     same-length = h .working .same-length;
     fits = h .working .fits;
-    placed = λ i l. marks-to (getD work (2 * i + 1) 0) (PlacedAt A d First i) (PlacedAt A d Other i) (λ s w. (w .0, to s i (w .1))) (λ s w. (w .0, back s i (w .1))) (h .working .placed i l);
+    placed = λ i l. marks-to (getD work (2 * i + 1) 0) (PlacedAt A d First i) (PlacedAt A d Other i) (λ s w. (w .0, to s i (w .1)))
+        (λ s w. (w .0, back s i (w .1))) (h .working .placed i l);
     rest = h .working .rest;
   };
 }
@@ -56,10 +58,13 @@ found-first A d First Other va e list₀ work₀ c list work h = record {
     back = reaches-first A d Other First va (λ i l. e i l .1)
 
 -- the second entries before the pass mark step 0 at the start nodes
-pub ready-starts : (A : Shape) (d : Document) (work : List ℕ) → Ready A d work → (i : ℕ) → i < nodeCount d → Marks (getD work (2 * i + 1) 0) (λ s. (s ≡ 0) × Marked work i)
+pub ready-starts : (A : Shape) (d : Document) (work : List ℕ) → Ready A d work → (i : ℕ) → i < nodeCount d → Marks (getD work (2 * i + 1) 0)
+    (λ s. (s ≡ 0) × Marked work i)
 ready-starts A d work r i l = ⊎-elim
-    (λ e. subst (λ (x : ℕ). Marks x (λ s. (s ≡ 0) × Marked work i)) (sym e) (marks-to 1 (λ s. s ≡ 0) (λ s. (s ≡ 0) × Marked work i) (λ s z. (z, e)) (λ s z. z .0) (marks-one 0)))
-    (λ e. subst (λ (x : ℕ). Marks x (λ s. (s ≡ 0) × Marked work i)) (sym e) (marks-none (λ s. (s ≡ 0) × Marked work i) (λ s w. omega (arith, w .1)))) (r .flags i l)
+    (λ e. subst (λ (x : ℕ). Marks x (λ s. (s ≡ 0) × Marked work i)) (sym e)
+    (marks-to 1 (λ s. s ≡ 0) (λ s. (s ≡ 0) × Marked work i) (λ s z. (z, e)) (λ s z. z .0) (marks-one 0)))
+    (λ e. subst (λ (x : ℕ). Marks x (λ s. (s ≡ 0) × Marked work i)) (sym e) (marks-none (λ s. (s ≡ 0) × Marked work i) (λ s w. omega (arith, w .1))))
+    (r .flags i l)
 
 pub down-ready : (A : Shape) (d : Document) (work allowed : List ℕ) → Ready A d work → Downward A d (Marked work) 0 work work allowed
 down-ready A d work allowed r = record {
@@ -85,14 +90,19 @@ module _ (A : Shape) (d : Document) (First : ℕ → Type 0) (va : ValidShape A)
   pub listed-skip : (k c : ℕ) (before list : List ℕ) → Listed A d First k c before list → (Started First A d k → ⊥) → Listed A d First (suc k) c before list
   listed-skip k c before list h n = record {
     answers = h .answers;
-    lists = lists-iff (h .lists) (λ i. (λ q. (omega (arith, q .0), q .1), λ q. below-or-at (q .0) (λ l. (l, q .1)) (λ e. absurd (n (subst (Started First A d) e (q .1))))));
+    lists = lists-iff (h .lists) (λ i. (
+      λ q. (omega (arith, q .0), q .1),
+      λ q. below-or-at (q .0) (λ l. (l, q .1))
+          (λ e. absurd (n (subst (Started First A d) e (q .1)))),
+    ));
     count = h .count;
     few = omega (arith, h .few);
     written = h .written;
   }
 
   -- a node that is one is put at the end of those before it
-  pub listed-put : (k c : ℕ) (before list : List ℕ) → Listed A d First k c before list → Started First A d k → c < length before → Listed A d First (suc k) (c + 1) before (set list c k)
+  pub listed-put : (k c : ℕ) (before list : List ℕ) → Listed A d First k c before list → Started First A d k → c < length before → Listed A d First (suc k)
+      (c + 1) before (set list c k)
   listed-put k c before list h a l = record {
     answers = h .answers ++ (k ∷ []);
     lists = lists-iff (lists-more (λ i. (i < k) × Started First A d i) (h .answers) k (h .lists) (λ i q. q .0)) (λ i. (
@@ -105,7 +115,8 @@ module _ (A : Shape) (d : Document) (First : ℕ → Type 0) (va : ValidShape A)
   }
 
   -- after the last node the list is that of all answers
-  pub listed-found : (c : ℕ) (list₀ list work₀ work allowed : List ℕ) → Listed A d First (nodeCount d) c list₀ list → Downward A d First (nodeCount d) work₀ work allowed
+  pub listed-found : (c : ℕ) (list₀ list work₀ work allowed : List ℕ) → Listed A d First (nodeCount d) c list₀ list → Downward A d First (nodeCount d) work₀
+      work allowed
       → Found A d First list₀ work₀ c list work
   listed-found c list₀ list work₀ work allowed h u = record {
     answers = h .answers;
@@ -116,16 +127,19 @@ module _ (A : Shape) (d : Document) (First : ℕ → Type 0) (va : ValidShape A)
   }
 
   -- a node's turn in the answer list
-  pub listed-noted : (whole output i c r : ℕ) (before list list′ : List ℕ) → A .output ≡ output → Marks whole (PlacedAt A d First i) → Noted whole output i c list r list′ → c < length before
+  pub listed-noted : (whole output i c r : ℕ) (before list list′ : List ℕ) → A .output ≡ output → Marks whole (PlacedAt A d First i) → Noted whole output i c
+      list r list′ → c < length before
       → Listed A d First i c before list → Listed A d First (i + 1) r before list′
   listed-noted whole output i c r before list list′ o m n l h = rw (add-one i) (go (bit-cases whole output))
     where
       go : (bit whole output ≡ 1) ⊎ (bit whole output ≡ 0) → Listed A d First (suc i) r before list′
-      go (inl b) = rw (n .put b .0, n .put b .1) (listed-put i c before list h (subst (λ (s : ℕ). Reaches A (nodesOf d) First s i) (sym o) (m .only output b .1)) l)
+      go (inl b) = rw (n .put b .0, n .put b .1) (listed-put i c before list h
+          (subst (λ (s : ℕ). Reaches A (nodesOf d) First s i) (sym o) (m .only output b .1)) l)
       go (inr b) =
           let no-bit : bit whole output ≡ 1 → ⊥ = λ e. omega arith in
           rw (n .skip no-bit .0, n .skip no-bit .1)
-          (listed-skip i c before list h (λ a. no-bit (m .put output (subst (λ (s : ℕ). (s < A .tree .size) × Reaches A (nodesOf d) First s i) o (va .output, a)))))
+          (listed-skip i c before list h (λ a. no-bit (m .put output (subst (λ (s : ℕ). (s < A .tree .size) × Reaches A (nodesOf d) First s i) o
+          (va .output, a)))))
 
 -- a turn puts at most one entry
 pub noted-few : (whole output i c r : ℕ) (list list′ : List ℕ) → Noted whole output i c list r list′ → (r ≤ c + 1) × (length list′ ≡ length list)

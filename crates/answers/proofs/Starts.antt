@@ -54,7 +54,8 @@ pub record MarkedTo (xs before : List ℕ) (k : ℕ) (work : List ℕ) : Type 0 
 pub marked-start : (xs before : List ℕ) → MarkedTo xs before 0 before
 marked-start xs before = record { same-length = refl; put = λ j l. absurd (omega arith); others = λ q n. refl }
 
-pub marked-more : (xs before : List ℕ) (k : ℕ) (work : List ℕ) → MarkedTo xs before k work → 2 * getD xs k 0 + 1 < length work → MarkedTo xs before (suc k) (set work (2 * getD xs k 0 + 1) 1)
+pub marked-more : (xs before : List ℕ) (k : ℕ) (work : List ℕ) → MarkedTo xs before k work → 2 * getD xs k 0 + 1 < length work → MarkedTo xs before (suc k)
+    (set work (2 * getD xs k 0 + 1) 1)
 marked-more xs before k work m l = record {
   same-length = length-set work (2 * getD xs k 0 + 1) 1 ∙ m .same-length;
   put = λ j h. put j h (ℕ-discrete (2 * getD xs j 0 + 1) (2 * getD xs k 0 + 1));
@@ -63,11 +64,13 @@ marked-more xs before k work m l = record {
   where
     put : (j : ℕ) → j < suc k → Dec (2 * getD xs j 0 + 1 ≡ 2 * getD xs k 0 + 1) → Marked (set work (2 * getD xs k 0 + 1) 1) (getD xs j 0)
     put j h (yes e) = ap (λ x. getD (set work (2 * getD xs k 0 + 1) 1) x 0) e ∙ getD-set-same work (2 * getD xs k 0 + 1) 1 0 l
-    put j h (no e) = getD-set-other work (2 * getD xs k 0 + 1) (2 * getD xs j 0 + 1) 1 0 e ∙ below-or-at h (m .put j) (λ z. absurd (e (ap (λ x. 2 * getD xs x 0 + 1) z)))
+    put j h (no e) = getD-set-other work (2 * getD xs k 0 + 1) (2 * getD xs j 0 + 1) 1 0 e ∙ below-or-at h (m .put j)
+        (λ z. absurd (e (ap (λ x. 2 * getD xs x 0 + 1) z)))
 
 -- after the last entry
 pub marked-all : (xs before work : List ℕ) → MarkedTo xs before (length xs) work → (i : ℕ) → In xs i → Marked work i
 marked-all xs before work m i w = ap (λ x. getD work (2 * x + 1) 0) (sym (w .is)) ∙ m .put (w .place) (w .early)
 
-pub marked-others : (xs before work : List ℕ) → MarkedTo xs before (length xs) work → (q : ℕ) → ((i : ℕ) → In xs i → q ≡ 2 * i + 1 → ⊥) → getD work q 0 ≡ getD before q 0
+pub marked-others : (xs before work : List ℕ) → MarkedTo xs before (length xs) work → (q : ℕ) → ((i : ℕ) → In xs i → q ≡ 2 * i + 1 → ⊥) → getD work q 0 ≡ getD
+    before q 0
 marked-others xs before work m q n = m .others q (λ j l e. n (getD xs j 0) (record { place = j; early = l; is = refl }) e)

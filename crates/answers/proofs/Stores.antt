@@ -44,7 +44,8 @@ module _ (w : List ℕ) (i p fit below seed : ℕ) (late : p < i) (room : 2 * i 
   pub handed-is : Handed w i p fit below seed (handed w i p fit below seed)
   handed-is = record {
     same-length = length-set w₂ (2 * p + 1) _ ∙ long₂;
-    own = old₃ (2 * i) (omega arith) (omega arith) ∙ getD-set-other (set w (2 * i) fit) (2 * i + 1) (2 * i) seed 0 (omega arith) ∙ getD-set-same w (2 * i) fit 0 (omega arith);
+    own = old₃ (2 * i) (omega arith) (omega arith) ∙ getD-set-other (set w (2 * i) fit) (2 * i + 1) (2 * i) seed 0 (omega arith) ∙ getD-set-same w (2 * i) fit
+        0 (omega arith);
     seeded = old₃ (2 * i + 1) (omega arith) (omega arith) ∙ getD-set-same (set w (2 * i) fit) (2 * i + 1) seed 0 (simp length-set (omega arith));
     up = getD-set-other w₂ (2 * p + 1) (2 * p) _ 0 (omega arith) ∙ getD-set-same w₁ (2 * p) _ 0 (omega (arith, long₁))
         ∙ ap (λ x. bitOr x fit) (old₁ (2 * p) (omega arith) (omega arith));
@@ -66,7 +67,8 @@ cleared-rest m before q l =
     let k : ℕ = q - m in
     let e : q ≡ length (replicate {A = ℕ} m 0) + k = omega (arith, length-replicate {A = ℕ} m 0) in
     let z : m + k ≡ q = omega arith in
-    ap (λ x. getD (replicate m 0 ++ drop m before) x 0) e ∙ getD-append-add (replicate m 0) (drop m before) k 0 ∙ getD-drop m before k 0 ∙ ap (λ x. getD before x 0) z
+    ap (λ x. getD (replicate m 0 ++ drop m before) x 0) e ∙ getD-append-add (replicate m 0) (drop m before) k 0 ∙ getD-drop m before k 0 ∙ ap
+    (λ x. getD before x 0) z
 
 pub cleared-length : (m : ℕ) (before : List ℕ) → m ≤ length before → length (replicate m 0 ++ drop m before) ≡ length before
 cleared-length m before l = length-append (replicate m 0) (drop m before) ∙ omega (arith, length-replicate {A = ℕ} m 0, length-drop m before)

@@ -45,7 +45,8 @@ isStartList d xs =
 pub tells-start-list : (d : Document) (xs : List ℕ) → Tells (isStartList d xs) (StartList d xs)
 unfolding isStartList
 tells-start-list d xs = tells-iff
-    (tells-and (tells-every (λ k. tells-imp (tells-lt (suc k) (length xs)) (tells-lt (getD xs k 0) (getD xs (suc k) 0))) (length xs)) (tells-every (λ k. tells-lt (getD xs k 0) (nodeCount d)) (length xs)))
+    (tells-and (tells-every (λ k. tells-imp (tells-lt (suc k) (length xs)) (tells-lt (getD xs k 0) (getD xs (suc k) 0))) (length xs))
+    (tells-every (λ k. tells-lt (getD xs k 0) (nodeCount d)) (length xs)))
     (λ p. record { ascending = λ k l. p .0 k (omega arith) l; nodes = p .1 }, λ s. (λ k h l. s .ascending k l, s .nodes))
 
 -- the answers, ascending
@@ -55,12 +56,14 @@ answersOf A d first = passing (nodeCount d) (λ i. canWhole (A .tree) (probe A (
 -- the two working entries of node i, and the list of them all
 unfoldable pub entriesOf : Shape → Document → (ℕ → Bool) → ℕ → List ℕ
 entriesOf A d first i =
-    mask (A .tree .size) (λ s. canSend (A .tree) (probe A (nodesOf d) first) s i) ∷ mask (A .tree .size) (λ s. canWhole (A .tree) (probe A (nodesOf d) first) s i) ∷ []
+    mask (A .tree .size) (λ s. canSend (A .tree) (probe A (nodesOf d) first) s i) ∷ mask (A .tree .size)
+    (λ s. canWhole (A .tree) (probe A (nodesOf d) first) s i) ∷ []
 
 unfoldable pub workingOf : Shape → Document → (ℕ → Bool) → List ℕ
 workingOf A d first = blocks (entriesOf A d first) (nodeCount d)
 
-module _ (A : Shape) (d : Document) (first : ℕ → Bool) (First : ℕ → Type 0) (va : ValidShape A) (vd : ValidDocument d) (tells-first : (i : ℕ) → Tells (first i) (First i)) where
+module _ (A : Shape) (d : Document) (first : ℕ → Bool) (First : ℕ → Type 0) (va : ValidShape A) (vd : ValidDocument d)
+    (tells-first : (i : ℕ) → Tells (first i) (First i)) where
   -- what is computed is the list of the answers
   pub answers-of : Lists (Started First A d) (answersOf A d first)
   unfolding answersOf

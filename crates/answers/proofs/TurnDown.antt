@@ -23,7 +23,8 @@ use Rattle.answers.proofs.Downward.{node-placed, node-allowed, root-pla
 
 module _ (A : Shape) (kids : List ℕ) (de near forks : ℕ) (k : ChildPlan A kids de near forks) where
   -- what is passed on: steps led to, and descendant steps of what was allowed above
-  passed-marks : (whole over x : ℕ) (Over : ℕ → Type 0) → Marks over Over → ((t : ℕ) → bit whole t ≡ 1 → t < A .tree .size) → PassedOn kids near forks whole over de x
+  passed-marks : (whole over x : ℕ) (Over : ℕ → Type 0) → Marks over Over → ((t : ℕ) → bit whole t ≡ 1 → t < A .tree .size) → PassedOn kids near forks whole
+      over de x
       → Marks x (λ t. Led (ToChildren A) whole t ⊎ (Over t × OfAxis A 1 t))
   passed-marks whole over x Over mo few p = go (decLt 0 (bitAnd whole forks))
     where
@@ -42,7 +43,8 @@ module _ (A : Shape) (kids : List ℕ) (de near forks : ℕ) (k : ChildPlan A ki
     -- what stands at a node: steps that fit, and are allowed from above or start there
     whole-marks : (i fit over start : ℕ) (Over : ℕ → Type 0) → Marks fit (FitsAt A d i) → Marks over Over → Marks start (λ s. (s ≡ 0) × First i)
         → Marks (bitAnd fit (bitOr over start)) (λ s. FitsAt A d i s × (Over s ⊎ ((s ≡ 0) × First i)))
-    whole-marks i fit over start Over mf mo ms = marks-and fit (bitOr over start) (FitsAt A d i) (λ s. Over s ⊎ ((s ≡ 0) × First i)) mf (marks-or over start Over (λ s. (s ≡ 0) × First i) mo ms)
+    whole-marks i fit over start Over mf mo ms = marks-and fit (bitOr over start) (FitsAt A d i) (λ s. Over s ⊎ ((s ≡ 0) × First i)) mf
+        (marks-or over start Over (λ s. (s ≡ 0) × First i) mo ms)
 
     placed-few : (i whole : ℕ) → Marks whole (PlacedAt A d First i) → (t : ℕ) → bit whole t ≡ 1 → t < A .tree .size
     placed-few i whole m t b = m .only t b .0
@@ -52,7 +54,8 @@ module _ (A : Shape) (kids : List ℕ) (de near forks : ℕ) (k : ChildPlan A ki
       placed : Marks whole (PlacedAt A d First i)
       allows : Marks x (Allowed A d First i)
 
-    turn-root : (fit over start x : ℕ) → Marks fit (FitsAt A d 0) → over ≡ 0 → Marks start (λ s. (s ≡ 0) × First 0) → PassedOn kids near forks (bitAnd fit (bitOr over start)) over de x
+    turn-root : (fit over start x : ℕ) → Marks fit (FitsAt A d 0) → over ≡ 0 → Marks start (λ s. (s ≡ 0) × First 0) → PassedOn kids near forks
+        (bitAnd fit (bitOr over start)) over de x
         → Turn 0 over (bitAnd fit (bitOr over start)) x
     turn-root fit over start x mf z ms p =
         let None : ℕ → Type 0 = λ s. ⊥ in
@@ -64,19 +67,23 @@ module _ (A : Shape) (kids : List ℕ) (de near forks : ℕ) (k : ChildPlan A ki
         record {
           placed = mw;
           allows = root-allowed A d First (k .valid) vd whole mw x
-              (marks-to x (λ t. Led (ToChildren A) whole t ⊎ (None t × OfAxis A 1 t)) (Led (ToChildren A) whole) (λ t w. ⊎-elim (λ y. y) (λ y. absurd (y .0)) w) (λ t w. inl w)
+              (marks-to x (λ t. Led (ToChildren A) whole t ⊎ (None t × OfAxis A 1 t)) (Led (ToChildren A) whole)
+              (λ t w. ⊎-elim (λ y. y) (λ y. absurd (y .0)) w) (λ t w. inl w)
               (passed-marks whole over x None mo (placed-few 0 whole mw) p));
         }
 
-    turn-node : (q i fit over start x : ℕ) → Child (nodesOf d .tree) q i → Marks fit (FitsAt A d i) → Marks over (Allowed A d First q) → Marks start (λ s. (s ≡ 0) × First i)
+    turn-node : (q i fit over start x : ℕ) → Child (nodesOf d .tree) q i → Marks fit (FitsAt A d i) → Marks over (Allowed A d First q) → Marks start
+        (λ s. (s ≡ 0) × First i)
         → PassedOn kids near forks (bitAnd fit (bitOr over start)) over de x → Turn i over (bitAnd fit (bitOr over start)) x
     turn-node q i fit over start x c mf mo ms p =
         let whole : ℕ = bitAnd fit (bitOr over start) in
-        let mw : Marks whole (PlacedAt A d First i) = node-placed A d First (k .valid) vd q i c whole (whole-marks i fit over start (Allowed A d First q) mf mo ms) in
+        let mw : Marks whole (PlacedAt A d First i) = node-placed A d First (k .valid) vd q i c whole
+        (whole-marks i fit over start (Allowed A d First q) mf mo ms) in
         record {
           placed = mw;
           allows = node-allowed A d First (k .valid) vd q i c whole mw x
-              (marks-to x (λ t. Led (ToChildren A) whole t ⊎ (Allowed A d First q t × OfAxis A 1 t)) (λ t. Led (ToChildren A) whole t ⊎ (Allowed A d First q t × (A .axis t ≡ 1)))
+              (marks-to x (λ t. Led (ToChildren A) whole t ⊎ (Allowed A d First q t × OfAxis A 1 t))
+              (λ t. Led (ToChildren A) whole t ⊎ (Allowed A d First q t × (A .axis t ≡ 1)))
               (λ t w. ⊎-elim inl (λ y. inr (y .0, y .1 .2)) w) (λ t w. ⊎-elim inl (λ y. inr (y .0, (y .0 .1 .late, y .0 .1 .here, y .1))) w)
               (passed-marks whole over x (Allowed A d First q) mo (placed-few i whole mw) p));
         }
@@ -86,14 +93,18 @@ module _ (A : Shape) (kids : List ℕ) (de near forks : ℕ) (k : ChildPlan A ki
         → (i ≡ 0 → over ≡ 0) → (0 < i → over ≡ getD allowed (getD (d .parents) i 0) 0)
         → PassedOn kids near forks (bitAnd (getD work (2 * i) 0) (bitOr over (getD work (2 * i + 1) 0))) over de x → Downward A d First i before work allowed
         → Turn i over (bitAnd (getD work (2 * i) 0) (bitOr over (getD work (2 * i + 1) 0))) x
-    turn-any zero over x before work allowed l up z y p u = turn-root (getD work (2 * 0) 0) over (getD work (2 * 0 + 1) 0) x (u .fits 0 l) (z refl) (u .starts 0 (omega arith) l) p
+    turn-any zero over x before work allowed l up z y p u = turn-root (getD work (2 * 0) 0) over (getD work (2 * 0 + 1) 0) x (u .fits 0 l) (z refl)
+        (u .starts 0 (omega arith) l) p
     turn-any (suc i) over x before work allowed l up z y p u =
         let h : 0 < suc i = omega arith in
-        turn-node (getD (d .parents) (suc i) 0) (suc i) (getD work (2 * suc i) 0) over (getD work (2 * suc i + 1) 0) x (record { late = h; here = l; up = refl }) (u .fits (suc i) l)
-        (subst (λ (w : ℕ). Marks w (Allowed A d First (getD (d .parents) (suc i) 0))) (sym (y h)) (u .allows (getD (d .parents) (suc i) 0) (up h))) (u .starts (suc i) (omega arith) l) p
+        turn-node (getD (d .parents) (suc i) 0) (suc i) (getD work (2 * suc i) 0) over (getD work (2 * suc i + 1) 0) x
+        (record { late = h; here = l; up = refl }) (u .fits (suc i) l)
+        (subst (λ (w : ℕ). Marks w (Allowed A d First (getD (d .parents) (suc i) 0))) (sym (y h)) (u .allows (getD (d .parents) (suc i) 0) (up h)))
+        (u .starts (suc i) (omega arith) l) p
 
     -- the turn of any node
-    pub turned : (i over x : ℕ) (before work allowed : List ℕ) → i < nodeCount d → (0 < i → getD (d .parents) i 0 < i) → 2 * i + 1 < length work → i < length allowed
+    pub turned : (i over x : ℕ) (before work allowed : List ℕ) → i < nodeCount d → (0 < i → getD (d .parents) i 0 < i) → 2 * i + 1 < length work → i < length
+        allowed
         → (i ≡ 0 → over ≡ 0) → (0 < i → over ≡ getD allowed (getD (d .parents) i 0) 0)
         → PassedOn kids near forks (bitAnd (getD work (2 * i) 0) (bitOr over (getD work (2 * i + 1) 0))) over de x
         → Downward A d First i before work allowed

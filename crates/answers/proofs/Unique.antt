@@ -28,19 +28,24 @@ module _ (A : Shape) (d : Document) (First : ℕ → Type 0) where
       go k (yes h) (yes e) =
           let i : ℕ = k / 2 in
           let m : i < nodeCount d = omega arith in
-          subst (λ (x : ℕ). getD w x 0 ≡ getD z x 0) {x = 2 * i} (omega arith) (marks-unique (getD w (2 * i) 0) (getD z (2 * i) 0) (FitsAt A d i) (a .fits i m) (b .fits i m))
+          subst (λ (x : ℕ). getD w x 0 ≡ getD z x 0) {x = 2 * i} (omega arith)
+          (marks-unique (getD w (2 * i) 0) (getD z (2 * i) 0) (FitsAt A d i) (a .fits i m) (b .fits i m))
       go k (yes h) (no e) =
           let i : ℕ = k / 2 in
           let m : i < nodeCount d = omega arith in
-          subst (λ (x : ℕ). getD w x 0 ≡ getD z x 0) {x = 2 * i + 1} (omega arith) (marks-unique (getD w (2 * i + 1) 0) (getD z (2 * i + 1) 0) (PlacedAt A d First i) (a .placed i m) (b .placed i m))
+          subst (λ (x : ℕ). getD w x 0 ≡ getD z x 0) {x = 2 * i + 1} (omega arith)
+          (marks-unique (getD w (2 * i + 1) 0) (getD z (2 * i + 1) 0) (PlacedAt A d First i) (a .placed i m) (b .placed i m))
 
-  found-count : (list₀ work₀ : List ℕ) (c e : ℕ) (list work list′ work′ : List ℕ) → Found A d First list₀ work₀ c list work → Found A d First list₀ work₀ e list′ work′ → c ≡ e
+  found-count : (list₀ work₀ : List ℕ) (c e : ℕ) (list work list′ work′ : List ℕ) → Found A d First list₀ work₀ c list work → Found A d First list₀ work₀ e
+      list′ work′ → c ≡ e
   found-count list₀ work₀ c e list work list′ work′ h k =
       h .count ∙ ap length (lists-unique (Started First A d) (h .answers) (k .answers) (h .lists) (k .lists)) ∙ sym (k .count)
 
-  found-lists : (list₀ work₀ : List ℕ) (c e : ℕ) (list work list′ work′ : List ℕ) → Found A d First list₀ work₀ c list work → Found A d First list₀ work₀ e list′ work′ → (list ≡ list′) × (work ≡ work′)
+  found-lists : (list₀ work₀ : List ℕ) (c e : ℕ) (list work list′ work′ : List ℕ) → Found A d First list₀ work₀ c list work → Found A d First list₀ work₀ e
+      list′ work′ → (list ≡ list′) × (work ≡ work′)
   found-lists list₀ work₀ c e list work list′ work′ h k = (
-    h .written ∙ ap₂ (λ xs n. xs ++ drop n list₀) (lists-unique (Started First A d) (h .answers) (k .answers) (h .lists) (k .lists)) (found-count list₀ work₀ c e list work list′ work′ h k) ∙ sym (k .written),
+    h .written ∙ ap₂ (λ xs n. xs ++ drop n list₀) (lists-unique (Started First A d) (h .answers) (k .answers) (h .lists) (k .lists))
+        (found-count list₀ work₀ c e list work list′ work′ h k) ∙ sym (k .written),
     working-unique work₀ work work′ (h .working) (k .working),
   )
 

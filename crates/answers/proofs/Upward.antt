@@ -74,7 +74,8 @@ module _ (A : Shape) (d : Document) (va : ValidShape A) (vd : ValidDocument d) (
         (marks-or (getD work (2 * p + 1) 0) fit (FitsUnder A d (suc i) p) (FitsAt A d i) (u .under p (omega (arith, earlier))) m) (u .under i (omega arith))))
       where
         -- at or below node i itself
-        own : (s : ℕ) (w : FitsUnder A d i p s) → i ≡ w .0 → From (nodesOf d .tree) (w .0) (w .3 .0) → (FitsUnder A d (suc i) p s ⊎ FitsAt A d i s) ⊎ FitsUnder A d (suc i) i s
+        own : (s : ℕ) (w : FitsUnder A d i p s) → i ≡ w .0 → From (nodesOf d .tree) (w .0) (w .3 .0) → (FitsUnder A d (suc i) p s ⊎ FitsAt A d i s) ⊎
+            FitsUnder A d (suc i) i s
         own s w e (inl z) = inl (inr (subst (λ (j : ℕ). FitsAt A d j s) (sym (e ∙ z)) (w .3 .2)))
         own s w e (inr b) =
             let g = below-top (subst (λ (j : ℕ). Below (nodesOf d .tree) j (w .3 .0)) (sym e) b) in
@@ -94,7 +95,8 @@ module _ (A : Shape) (d : Document) (va : ValidShape A) (vd : ValidDocument d) (
 
     here : (x : ℕ) → x < i → Marks (getD after (2 * x) 0) (FitsAtChild A d i x) × Marks (getD after (2 * x + 1) 0) (FitsUnder A d i x)
     here x l = elim (ℕ-discrete x p) [
-      | yes e ↦ subst (λ (y : ℕ). Marks (getD after (2 * y) 0) (FitsAtChild A d i y) × Marks (getD after (2 * y + 1) 0) (FitsUnder A d i y)) (sym e) (at-parent, under-parent)
+      | yes e ↦ subst (λ (y : ℕ). Marks (getD after (2 * y) 0) (FitsAtChild A d i y) × Marks (getD after (2 * y + 1) 0) (FitsUnder A d i y)) (sym e)
+          (at-parent, under-parent)
       | no n ↦ other x l n
     ]
 
@@ -114,7 +116,8 @@ module _ (A : Shape) (d : Document) (va : ValidShape A) (vd : ValidDocument d) (
     }
 
   -- the last turn is node 0's
-  pub up-root : (fit : ℕ) (before work : List ℕ) → Upward A d seed 1 before work → Marks fit (FitsAt A d 0) → 1 < length work → Upward A d seed 0 before (set (set work 0 fit) 1 seed)
+  pub up-root : (fit : ℕ) (before work : List ℕ) → Upward A d seed 1 before work → Marks fit (FitsAt A d 0) → 1 < length work → Upward A d seed 0 before
+      (set (set work 0 fit) 1 seed)
   up-root fit before work u m h = record {
     same-length = simp length-set (u .same-length);
     fits = λ x k l. ⊎-elim

@@ -43,11 +43,12 @@ pub record Doubled (before : List ℕ) (base top m : ℕ) (after : List ℕ) : T
   pub early : (k : ℕ) → k < base + top → getD after k 0 ≡ getD before k 0
   pub late : (k : ℕ) → base + 2 * top ≤ k → getD after k 0 ≡ getD before k 0
 
--- R t s says that step t leads to step s. Entry 256c + v of the table has the steps to which the steps 8c + b lead, where b goes through the bits of v; all those
--- steps are below n.
+-- R t s says that step t leads to step s. Entry 256c + v of the table has the steps to which the steps 8c + b lead, where b goes through the bits of v; all
+-- those steps are below n.
 pub record Spread (R : ℕ → ℕ → Type 0) (n : ℕ) (table : List ℕ) : Type 0 where
   pub size : length table ≡ 2048
-  pub entry : (c v : ℕ) → c < 8 → v < 256 → ((b : ℕ) → bit v b ≡ 1 → 8 * c + b < n) → Marks (getD table (256 * c + v) 0) (λ s. (b : ℕ) × (bit v b ≡ 1) × R (8 * c + b) s)
+  pub entry : (c v : ℕ) → c < 8 → v < 256 → ((b : ℕ) → bit v b ≡ 1 → 8 * c + b < n) → Marks (getD table (256 * c + v) 0)
+      (λ s. (b : ℕ) × (bit v b ≡ 1) × R (8 * c + b) s)
 
 -- a step leads to its parent; a step leads to its child steps
 abbrev pub ToParent : Shape → ℕ → ℕ → Type 0
@@ -106,7 +107,8 @@ pub record ChildPlan (A : Shape) (kids : List ℕ) (de near forks : ℕ) : Type 
   pub near-steps : Marks near (Near A)
   pub fork-steps : Forks A forks
 
--- what the children of a node may take: what the steps that stand at it lead to, found by a shift or in the table, and the descendant steps of what was allowed above
+-- what the children of a node may take: what the steps that stand at it lead to, found by a shift or in the table, and the descendant steps of what was allowed
+-- above
 pub record PassedOn (kids : List ℕ) (near forks whole above de r : ℕ) : Type 0 where
   pub shifted : bitAnd whole forks ≡ 0 → r ≡ bitOr (bitAnd (whole * 2 ^ 1 % 2 ^ 64) near) (bitAnd above de)
   pub looked-up : 0 < bitAnd whole forks → r ≡ bitOr (lookUp kids whole 8) (bitAnd above de)

@@ -20,7 +20,8 @@ fn find(p: Pattern, parents: &[u16], labels: &[u16], list: &mut [u16], work: &mu
     requires { ⌜ ValidPattern p ⌝ }
     requires { ⌜ ValidDocument (record { parents = now parents; labels = now labels }) ⌝ }
     requires { ⌜ (length (now parents) ≤ length (now list)) × (2 * length (now parents) ≤ length (now work)) ⌝ }
-    ensures { λ r. ⌜ Found (shapeOf p) (record { parents = now (parents .entry); labels = now (labels .entry) }) (Begins (shapeOf p)) (now (list .entry)) (now (work .entry)) r (now (list .exit)) (now (work .exit)) ⌝ }
+    ensures { λ r. ⌜ Found (shapeOf p) (record { parents = now (parents .entry); labels = now (labels .entry) }) (Begins (shapeOf p)) (now (list .entry))
+        (now (work .entry)) r (now (list .exit)) (now (work .exit)) ⌝ }
 {
     let seed = p.axis[0] as u64;
     passes::rise(p, parents, labels, seed, work);
@@ -41,16 +42,17 @@ fn find_started(
     requires { ⌜ ValidDocument (record { parents = now parents; labels = now labels }) ⌝ }
     requires { ⌜ ((k : ℕ) → k < length (now starts) → getD (now starts) k 0 < length (now parents)) ⌝ }
     requires { ⌜ (length (now parents) ≤ length (now list)) × (2 * length (now parents) ≤ length (now work)) ⌝ }
-    ensures { λ r. ⌜ Found (shapeOf p) (record { parents = now (parents .entry); labels = now (labels .entry) }) (In (now (starts .entry))) (now (list .entry)) (now (work .entry)) r (now (list .exit)) (now (work .exit)) ⌝ }
+    ensures { λ r. ⌜ Found (shapeOf p) (record { parents = now (parents .entry); labels = now (labels .entry) }) (In (now (starts .entry)))
+        (now (list .entry)) (now (work .entry)) r (now (list .exit)) (now (work .exit)) ⌝ }
 {
     passes::rise(p, parents, labels, 0, work);
     passes::mark_starts(starts, parents.len(), work);
     passes::descend(p, parents, labels, work, list)
 }
 
-// The answers of a pattern in a document: counted, and ascending at the front of `list`; the entries of `list` past them stay. Entries 2i and 2i + 1 of `work` become
-// the steps that fit at node i and those that stand there in a whole placement; the entries past the nodes' stay.
-// Refused by 3 (the pattern), 4 (the document), 5 (a list too short), in this order; then both lists stay as they were.
+// The answers of a pattern in a document: counted, and ascending at the front of `list`; the entries of `list` past them stay. Entries 2i and 2i + 1 of `work`
+// become the steps that fit at node i and those that stand there in a whole placement; the entries past the nodes' stay. Refused by 3 (the pattern), 4 (the
+// document), 5 (a list too short), in this order; then both lists stay as they were.
 pub fn answers(
     p: Pattern,
     parents: &[u16],
@@ -58,7 +60,8 @@ pub fn answers(
     list: &mut [u16],
     work: &mut [u64],
 ) -> Counted
-    ensures { λ r. ⌜ FindsAnswers p (record { parents = now (parents .entry); labels = now (labels .entry) }) (now (list .entry)) (now (work .entry)) r (now (list .exit)) (now (work .exit)) ⌝ }
+    ensures { λ r. ⌜ FindsAnswers p (record { parents = now (parents .entry); labels = now (labels .entry) }) (now (list .entry)) (now (work .entry)) r
+        (now (list .exit)) (now (work .exit)) ⌝ }
 {
     if let Checked::Refused(r) = tables::check_pattern(p) {
         return Counted::Refused(r);
@@ -76,8 +79,8 @@ pub fn answers(
     Counted::Count(find(p, parents, labels, list, work))
 }
 
-// The same with step 0 at any node of `starts`, which may be empty: the pattern's step 0 must have axis child, and `starts` must be strictly ascending node numbers.
-// Refused by 3, 4, 6 (the axis of step 0, or the start list), 5, in this order; then both lists stay as they were.
+// The same with step 0 at any node of `starts`, which may be empty: the pattern's step 0 must have axis child, and `starts` must be strictly ascending node
+// numbers. Refused by 3, 4, 6 (the axis of step 0, or the start list), 5, in this order; then both lists stay as they were.
 pub fn started(
     p: Pattern,
     parents: &[u16],
@@ -86,7 +89,8 @@ pub fn started(
     list: &mut [u16],
     work: &mut [u64],
 ) -> Counted
-    ensures { λ r. ⌜ FindsStarted p (record { parents = now (parents .entry); labels = now (labels .entry) }) (now (starts .entry)) (now (list .entry)) (now (work .entry)) r (now (list .exit)) (now (work .exit)) ⌝ }
+    ensures { λ r. ⌜ FindsStarted p (record { parents = now (parents .entry); labels = now (labels .entry) }) (now (starts .entry)) (now (list .entry))
+        (now (work .entry)) r (now (list .exit)) (now (work .exit)) ⌝ }
 {
     if let Checked::Refused(r) = tables::check_pattern(p) {
         return Counted::Refused(r);

@@ -1,5 +1,5 @@
-// The two passes over the nodes (docs/RULES.md, "Answers"): from the last node to the first, which steps fit at each node; then from the first to the last, which
-// steps stand there in a whole placement, and the answers.
+// The two passes over the nodes (docs/RULES.md, "Answers"): from the last node to the first, which steps fit at each node; then from the first to the last,
+// which steps stand there in a whole placement, and the answers.
 ghost use mathlib.Core.Path.{_≡_};
 ghost use mathlib.Core.List.{List, _++_};
 ghost use Prim.Native.Nat.{ℕ, _+_, _*_, _-_, _≤_, _<_};
@@ -76,7 +76,8 @@ pub(crate) fn mark_starts(starts: &[u16], n: usize, work: &mut [u64])
     requires { ⌜ (n ≤ 2048) × (2 * n ≤ length (now work)) ⌝ }
     requires { ⌜ ((k : ℕ) → k < length (now starts) → getD (now starts) k 0 < n) ⌝ }
     ensures marks { λ _. ⌜ ((i : ℕ) → In (now (starts .entry)) i → Marked (now (work .exit)) i) ⌝ }
-    ensures others { λ _. ⌜ ((q : ℕ) → ((i : ℕ) → In (now (starts .entry)) i → q ≡ 2 * i + 1 → ⊥) → getD (now (work .exit)) q 0 ≡ getD (now (work .entry)) q 0) ⌝ }
+    ensures others { λ _. ⌜ ((q : ℕ) → ((i : ℕ) → In (now (starts .entry)) i → q ≡ 2 * i + 1 → ⊥) → getD (now (work .exit)) q 0 ≡ getD (now (work .entry)) q
+        0) ⌝ }
 {
     let mut k = 0;
     while k < starts.len() {
@@ -102,7 +103,8 @@ fn turn_up(
     work: &mut [u64],
 )
     requires { ⌜ (p < i) × (i < 2048) × (2 * i + 1 < length (now work)) ⌝ }
-    ensures { λ _. ⌜ Handed (now (work .entry)) i p (fitMask (now (low .entry)) (now (high .entry)) (now (lack .entry)) ch de near forks l (getD (now (work .entry)) (2 * i) 0) (getD (now (work .entry)) (2 * i + 1) 0)) (getD (now (work .entry)) (2 * i + 1) 0) seed (now (work .exit)) ⌝ }
+    ensures { λ _. ⌜ Handed (now (work .entry)) i p (fitMask (now (low .entry)) (now (high .entry)) (now (lack .entry)) ch de near forks l
+        (getD (now (work .entry)) (2 * i) 0) (getD (now (work .entry)) (2 * i + 1) 0)) (getD (now (work .entry)) (2 * i + 1) 0) seed (now (work .exit)) ⌝ }
 {
     let c = work[2 * i];
     let d = work[2 * i + 1];
@@ -124,7 +126,9 @@ fn turn_root(
     work: &mut [u64],
 )
     requires { ⌜ 1 < length (now work) ⌝ }
-    ensures { λ _. ⌜ now (work .exit) ≡ set (set (now (work .entry)) 0 (fitMask (now (low .entry)) (now (high .entry)) (now (lack .entry)) ch de near forks l (getD (now (work .entry)) 0 0) (getD (now (work .entry)) 1 0))) 1 seed ⌝ }
+    ensures { λ _. ⌜ now (work .exit) ≡ set (set (now (work .entry)) 0
+        (fitMask (now (low .entry)) (now (high .entry)) (now (lack .entry)) ch de near forks l (getD (now (work .entry)) 0 0) (getD (now (work .entry)) 1 0)))
+        1 seed ⌝ }
 {
     let c = work[0];
     let d = work[1];
@@ -150,7 +154,8 @@ fn lift(
     requires { ⌜ ValidDocument (record { parents = now parents; labels = now labels }) ⌝ }
     requires { ⌜ 2 * length (now parents) ≤ length (now work) ⌝ }
     requires { ⌜ ((q : ℕ) → q < 2 * length (now parents) → getD (now work) q 0 ≡ 0) ⌝ }
-    ensures { λ _. ⌜ ((A : Shape) → PlanOf A (now (low .entry)) (now (high .entry)) (now (lack .entry)) ch de near forks → Upward A (record { parents = now (parents .entry); labels = now (labels .entry) }) seed 0 (now (work .entry)) (now (work .exit))) ⌝ }
+    ensures { λ _. ⌜ ((A : Shape) → PlanOf A (now (low .entry)) (now (high .entry)) (now (lack .entry)) ch de near forks → Upward A
+        (record { parents = now (parents .entry); labels = now (labels .entry) }) seed 0 (now (work .entry)) (now (work .exit))) ⌝ }
 {
     let mut i = parents.len();
     while 1 < i {
@@ -178,7 +183,8 @@ pub(crate) fn rise(p: Pattern, parents: &[u16], labels: &[u16], seed: u64, work:
     requires { ⌜ ValidPattern p ⌝ }
     requires { ⌜ ValidDocument (record { parents = now parents; labels = now labels }) ⌝ }
     requires { ⌜ 2 * length (now parents) ≤ length (now work) ⌝ }
-    ensures { λ _. ⌜ Upward (shapeOf p) (record { parents = now (parents .entry); labels = now (labels .entry) }) seed 0 (now (work .entry)) (now (work .exit)) ⌝ }
+    ensures { λ _. ⌜ Upward (shapeOf p) (record { parents = now (parents .entry); labels = now (labels .entry) }) seed 0 (now (work .entry))
+        (now (work .exit)) ⌝ }
 {
     let mut low = [0u64; 256];
     let mut high = [0u64; 256];
@@ -205,7 +211,8 @@ pub(crate) fn rise(p: Pattern, parents: &[u16], labels: &[u16], seed: u64, work:
     );
 }
 
-// What the children of a node may take, where `whole` stands at the node and `over` was allowed to it. Where no step is a fork, a shift finds the steps that hang on them.
+// What the children of a node may take, where `whole` stands at the node and `over` was allowed to it. Where no step is a fork, a shift finds the steps that
+// hang on them.
 fn pass_on(kids: &[u64; 2048], near: u64, forks: u64, whole: u64, over: u64, de: u64) -> u64
     ensures { λ r. ⌜ PassedOn (now (kids .entry)) near forks whole over de r ⌝ }
 {
@@ -242,7 +249,10 @@ fn turn_down(
     requires { ⌜ (i < length (now parents)) × (i < 2048) × (2 * i + 1 < length (now work)) × (length (now allowed) ≡ 2048) ⌝ }
     requires { ⌜ (0 < i → getD (now parents) i 0 < i) ⌝ }
     ensures sizes { λ _. ⌜ (length (now (work .exit)) ≡ length (now (work .entry))) × (length (now (allowed .exit)) ≡ length (now (allowed .entry))) ⌝ }
-    ensures turn { λ r. ⌜ ((A : Shape) (labels before : List ℕ) → ValidDocument (record { parents = now (parents .entry); labels = labels }) → ChildPlan A (now (kids .entry)) de near forks → Downward A (record { parents = now (parents .entry); labels = labels }) (Marked before) i before (now (work .entry)) (now (allowed .entry)) → Downward A (record { parents = now (parents .entry); labels = labels }) (Marked before) (i + 1) before (now (work .exit)) (now (allowed .exit)) × Marks r (PlacedAt A (record { parents = now (parents .entry); labels = labels }) (Marked before) i)) ⌝ }
+    ensures turn { λ r. ⌜ ((A : Shape) (labels before : List ℕ) → ValidDocument (record { parents = now (parents .entry); labels = labels }) → ChildPlan A
+        (now (kids .entry)) de near forks → Downward A (record { parents = now (parents .entry); labels = labels }) (Marked before) i before
+        (now (work .entry)) (now (allowed .entry)) → Downward A (record { parents = now (parents .entry); labels = labels }) (Marked before) (i + 1) before
+        (now (work .exit)) (now (allowed .exit)) × Marks r (PlacedAt A (record { parents = now (parents .entry); labels = labels }) (Marked before) i)) ⌝ }
 {
     let over = above(allowed, parents, i);
     let whole = work[2 * i] & (over | work[2 * i + 1]);
@@ -264,7 +274,10 @@ fn lower(
 ) -> usize
     requires { ⌜ (output < 64) × (length (now parents) ≤ 2048) × (2 * length (now parents) ≤ length (now work)) × (length (now parents) ≤ length (now list)) ⌝ }
     requires { ⌜ ((i : ℕ) → 0 < i → i < length (now parents) → getD (now parents) i 0 < i) ⌝ }
-    ensures { λ r. ⌜ ((A : Shape) (labels : List ℕ) → ValidDocument (record { parents = now (parents .entry); labels = labels }) → ChildPlan A (now (kids .entry)) de near forks → A .output ≡ output → Ready A (record { parents = now (parents .entry); labels = labels }) (now (work .entry)) → Found A (record { parents = now (parents .entry); labels = labels }) (Marked (now (work .entry))) (now (list .entry)) (now (work .entry)) r (now (list .exit)) (now (work .exit))) ⌝ }
+    ensures { λ r. ⌜ ((A : Shape) (labels : List ℕ) → ValidDocument (record { parents = now (parents .entry); labels = labels }) → ChildPlan A
+        (now (kids .entry)) de near forks → A .output ≡ output → Ready A (record { parents = now (parents .entry); labels = labels }) (now (work .entry)) →
+        Found A (record { parents = now (parents .entry); labels = labels }) (Marked (now (work .entry))) (now (list .entry)) (now (work .entry)) r
+        (now (list .exit)) (now (work .exit))) ⌝ }
 {
     let mut allowed = [0u64; 2048];
     let n = parents.len();
@@ -290,7 +303,8 @@ pub(crate) fn descend(
     requires { ⌜ ValidDocument (record { parents = now parents; labels = now labels }) ⌝ }
     requires { ⌜ length (now parents) ≤ length (now list) ⌝ }
     requires { ⌜ Ready (shapeOf p) (record { parents = now parents; labels = now labels }) (now work) ⌝ }
-    ensures { λ r. ⌜ Found (shapeOf p) (record { parents = now (parents .entry); labels = now (labels .entry) }) (Marked (now (work .entry))) (now (list .entry)) (now (work .entry)) r (now (list .exit)) (now (work .exit)) ⌝ }
+    ensures { λ r. ⌜ Found (shapeOf p) (record { parents = now (parents .entry); labels = now (labels .entry) }) (Marked (now (work .entry)))
+        (now (list .entry)) (now (work .entry)) r (now (list .exit)) (now (work .exit)) ⌝ }
 {
     let mut kids = [0u64; 2048];
     plan::child_table(p, &mut kids);

@@ -1,4 +1,5 @@
-// Reads a document packet, a view packet and a query packet from standard input and prints what `asking::reply` says of them (docs/RULES.md, "The program ask").
+// Reads a document packet, a view packet and a query packet from standard input and prints what `asking::reply` says of them (docs/RULES.md, "The program
+// ask").
 use tables::Counted;
 
 // Valid input has at most 8,715 bytes; one byte more shows that there are more.

@@ -38,7 +38,8 @@ number-small TooLarge = omega arith
 number-small NoLabel = omega arith
 
 -- what the call found stands in the first entries of the list
-pub found-finds : {A : Shape} {d : Document} {First : ℕ → Type 0} {list₀ work₀ : List ℕ} {c : ℕ} {list work : List ℕ} → Found A d First list₀ work₀ c list work → Finds (Started First A d) c list
+pub found-finds : {A : Shape} {d : Document} {First : ℕ → Type 0} {list₀ work₀ : List ℕ} {c : ℕ} {list work : List ℕ} → Found A d First list₀ work₀ c list
+    work → Finds (Started First A d) c list
 found-finds {A} {d} {First} {list₀} {work₀} {c} {list} {work} f =
     let e : take c list ≡ f .answers = ap (take c) (f .written) ∙ take-at (f .answers) (drop c list₀) c (sym (f .count)) in
     record {
@@ -59,9 +60,11 @@ module _ {First : ℕ → Type 0} (p : Pattern) (d : Document) (v : ValidPattern
   lists-start xs h = record { ascending = h .ascending; nodes = lists-nodes xs h }
 
   -- the line of answers that were found in a list of 2,048 entries
-  pub found-short : (w : List ℕ) (c : ℕ) (list : List ℕ) → ValidDocument d → length list ≡ 2048 → Finds (Started First (shapeOf p) d) c list → length (line w (take c list)) ≤ length w + 10247
+  pub found-short : (w : List ℕ) (c : ℕ) (list : List ℕ) → ValidDocument d → length list ≡ 2048 → Finds (Started First (shapeOf p) d) c list → length
+      (line w (take c list)) ≤ length w + 10247
   found-short w c list m e f =
-      line-short w (take c list) (omega (arith, f .few, length-take-le c list (f .few))) (λ k l. omega (arith, m .few, lists-nodes (take c list) (f .lists) k l))
+      line-short w (take c list) (omega (arith, f .few, length-take-le c list (f .few)))
+      (λ k l. omega (arith, m .few, lists-nodes (take c list) (f .lists) k l))
 
 -- as many entries as were counted
 pub found-count : {P : ℕ → Type 0} {c : ℕ} {list : List ℕ} → Finds P c list → c ≡ length (take c list)
@@ -72,9 +75,11 @@ pub handed-right : (Q U E : Pattern) → AnswersRewriting Q U rewriting.Handed E
 handed-right Q U E h = let j = h .2 .joinable in (j .1 .0, j .1 .1 .0)
 
 -- two patterns that are right are refused by their size alone
-pub refused-large : (Q U p : Pattern) (r : Refusal) → ValidPattern Q → ValidPattern U → AnswersRewriting Q U (rewriting.Refused r) p → AnswersRewriting Q U (rewriting.Refused TooLarge) zeroPattern
+pub refused-large : (Q U p : Pattern) (r : Refusal) → ValidPattern Q → ValidPattern U → AnswersRewriting Q U (rewriting.Refused r) p → AnswersRewriting Q U
+    (rewriting.Refused TooLarge) zeroPattern
 refused-large Q U p r q u h =
-    let e : number r ≡ 8 = ⊎-elim (λ w. absurd (w .0 q)) (λ w. ⊎-elim (λ x. absurd (x .0 u)) (λ x. ⊎-elim (λ y. y .1) (λ y. absurd (y .1)) (x .1)) (w .1)) (h .0) in
+    let e : number r ≡ 8 = ⊎-elim (λ w. absurd (w .0 q)) (λ w. ⊎-elim (λ x. absurd (x .0 u)) (λ x. ⊎-elim (λ y. y .1) (λ y. absurd (y .1)) (x .1)) (w .1))
+    (h .0) in
     (subst (Refuses (rewritingChecks Q U)) (number-unique r TooLarge e) (h .0), refl)
 
 -- a text at the front of the buffer

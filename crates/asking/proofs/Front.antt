@@ -46,7 +46,11 @@ moved : (A B C D A′ B′ C′ D′ : Type 0) (i j k l : ℕ) (r : Refusal) →
     → Refuses (record { asks = A; gives = i } ∷ record { asks = B; gives = j } ∷ record { asks = C; gives = k } ∷ record { asks = D; gives = l } ∷ []) r
     → Refuses (record { asks = A′; gives = i } ∷ record { asks = B′; gives = j } ∷ record { asks = C′; gives = k } ∷ record { asks = D′; gives = l } ∷ []) r
 moved A B C D A′ B′ C′ D′ i j k l r a b f g c d h =
-    ⊎-elim (λ w. absurd (w .0 a)) (λ w. inr (b, ⊎-elim (λ x. inl ((λ y. x .0 (g y)), x .1)) (λ x. inr (f (x .0), ⊎-elim (λ y. inl (d, y .1)) (λ y. absurd (c (y .0))) (x .1))) (w .1))) h
+    ⊎-elim (λ w. absurd (w .0 a)) (λ w. inr (
+      b,
+      ⊎-elim (λ x. inl ((λ y. x .0 (g y)), x .1))
+          (λ x. inr (f (x .0), ⊎-elim (λ y. inl (d, y .1)) (λ y. absurd (c (y .0))) (x .1))) (w .1),
+    )) h
 
 -- an input of more than n bytes, and its first n
 module _ (bs : List ℕ) (n : ℕ) (m : 8716 ≤ n) (l : n < length bs) where
@@ -64,7 +68,8 @@ module _ (bs : List ℕ) (n : ℕ) (m : 8716 ≤ n) (l : n < length bs) where
   same-part o h =
       let e : n ≡ o + (n - o) = omega arith in
       let f : drop o (take n bs) ≡ take (n - o) (drop o bs) =
-      ap (λ k. drop o (take k bs)) e ∙ ap (drop o) (take-add o (n - o) bs) ∙ drop-at (take o bs) (take (n - o) (drop o bs)) o (length-take-le o bs (omega arith)) in
+      ap (λ k. drop o (take k bs)) e ∙ ap (drop o) (take-add o (n - o) bs) ∙ drop-at (take o bs) (take (n - o) (drop o bs)) o
+      (length-take-le o bs (omega arith)) in
       ap₂ take (ap (λ x. x + 3) (front-half o (omega arith))) f ∙ take-take (half bs (o + 1) + 3) (n - o) (drop o bs) (omega arith)
 
   -- and the next packet begins at the same byte
@@ -103,7 +108,8 @@ module _ (bs : List ℕ) (n : ℕ) (m : 8716 ≤ n) (l : n < length bs) where
           (λ z. omega (arith, z .1 .field, z .1 .few, field-there 0 (omega arith))) (λ z. omega (arith, z .1 .field, z .1 .few, part-half bs 0)) w
 
   -- a packet that is right lies within the first n bytes
-  document-same : Passes (documentRules (packetAt (take n bs) 0)) → (packetAt (take n bs) 0 ≡ packetAt bs 0) × (nextAt (take n bs) 0 ≡ nextAt bs 0) × (nextAt bs 0 ≤ 8195)
+  document-same : Passes (documentRules (packetAt (take n bs) 0)) → (packetAt (take n bs) 0 ≡ packetAt bs 0) × (nextAt (take n bs) 0 ≡ nextAt bs 0) ×
+      (nextAt bs 0 ≤ 8195)
   unfolding nextAt
   document-same p =
       let z = p .1 .1 .0 in
@@ -131,12 +137,14 @@ module _ (bs : List ℕ) (n : ℕ) (m : 8716 ≤ n) (l : n < length bs) where
 
     -- what refuses the view packet
     view-front : (r : Refusal) → Refuses (patternChecks (packetAt (take n bs) (nextAt (take n bs) 0))) r → Refuses (patternChecks (packetAt bs (nextAt bs 0))) r
-    view-front r h = pattern-front (nextAt bs 0) r (omega (arith, document-same p .2)) (subst (λ o. Refuses (patternChecks (packetAt (take n bs) o)) r) at-view h)
+    view-front r h = pattern-front (nextAt bs 0) r (omega (arith, document-same p .2))
+        (subst (λ o. Refuses (patternChecks (packetAt (take n bs) o)) r) at-view h)
 
     -- and where the view packet is right, so does the query packet
     module _ (q : Passes (patternChecks (packetAt (take n bs) (nextAt (take n bs) 0)))) where
       -- the view packet, whole
-      view-same : (packetAt (take n bs) (nextAt bs 0) ≡ packetAt bs (nextAt bs 0)) × (nextAt (take n bs) (nextAt bs 0) ≡ nextAt bs (nextAt bs 0)) × (nextAt bs (nextAt bs 0) ≤ nextAt bs 0 + 260)
+      view-same : (packetAt (take n bs) (nextAt bs 0) ≡ packetAt bs (nextAt bs 0)) × (nextAt (take n bs) (nextAt bs 0) ≡ nextAt bs (nextAt bs 0)) ×
+          (nextAt bs (nextAt bs 0) ≤ nextAt bs 0 + 260)
       view-same = pattern-same (nextAt bs 0) (omega (arith, document-same p .2)) (subst (λ o. Passes (patternChecks (packetAt (take n bs) o))) at-view q)
 
       -- it is right in the whole input
@@ -159,7 +167,8 @@ module _ (bs : List ℕ) (n : ℕ) (m : 8716 ≤ n) (l : n < length bs) where
       -- where all three are right, they end within the first 8,715 bytes
       module _ (s : Passes (patternChecks (packetAt (take n bs) (nextAt (take n bs) (nextAt (take n bs) 0))))) where
         -- the query packet, whole
-        query-same : (packetAt (take n bs) (nextAt bs (nextAt bs 0)) ≡ packetAt bs (nextAt bs (nextAt bs 0))) × (nextAt (take n bs) (nextAt bs (nextAt bs 0)) ≡ nextAt bs (nextAt bs (nextAt bs 0)))
+        query-same : (packetAt (take n bs) (nextAt bs (nextAt bs 0)) ≡ packetAt bs (nextAt bs (nextAt bs 0))) ×
+            (nextAt (take n bs) (nextAt bs (nextAt bs 0)) ≡ nextAt bs (nextAt bs (nextAt bs 0)))
             × (nextAt bs (nextAt bs (nextAt bs 0)) ≤ nextAt bs (nextAt bs 0) + 260)
         query-same = pattern-same (nextAt bs (nextAt bs 0)) query-low (subst (λ o. Passes (patternChecks (packetAt (take n bs) o))) at-query s)
 

@@ -57,7 +57,8 @@ take-again xs m = go (decLt (length xs) m)
 pub part-is : (bs : List ℕ) (o : ℕ) → take (nextAt bs o - o) (drop o bs) ≡ packetAt bs o
 unfolding nextAt packetAt
 part-is bs o =
-    ap (λ k. take k (drop o bs)) {x = nextAt bs o - o} {y = length (take (half bs (o + 1) + 3) (drop o bs))} (omega arith) ∙ take-again (drop o bs) (half bs (o + 1) + 3)
+    ap (λ k. take k (drop o bs)) {x = nextAt bs o - o} {y = length (take (half bs (o + 1) + 3) (drop o bs))} (omega arith) ∙ take-again (drop o bs)
+    (half bs (o + 1) + 3)
 
 -- so for the document packet, which begins at byte 0
 pub first-part : (bs : List ℕ) → take (nextAt bs 0) bs ≡ packetAt bs 0
@@ -76,7 +77,8 @@ last-holds (d ∷ ds) c r f h = ⊎-elim inl (λ w. inr (w .0, last-holds ds c r
 -- so lists of 2,048 entries have room for it, and reading refuses by its rules alone
 pub rules-refuse : (bs : List ℕ) (a b : ℕ) (r : Refusal) → 2048 ≤ a → 2048 ≤ b → Refuses (documentChecks bs a b) r → Refuses (documentRules bs) r
 rules-refuse bs a b r l m h =
-    last-holds (documentRules bs) (record { asks = (nodesIn bs ≤ a) × (nodesIn bs ≤ b); gives = 5 }) r (λ p. (omega (arith, nodes-few bs p), omega (arith, nodes-few bs p))) h
+    last-holds (documentRules bs) (record { asks = (nodesIn bs ≤ a) × (nodesIn bs ≤ b); gives = 5 }) r
+    (λ p. (omega (arith, nodes-few bs p), omega (arith, nodes-few bs p))) h
 
 pub rules-pass : (bs : List ℕ) (a b : ℕ) → Passes (documentChecks bs a b) → Passes (documentRules bs)
 rules-pass bs a b p = (p .0, (p .1 .0, (p .1 .1 .0, (p .1 .1 .1 .0, tt))))

@@ -32,7 +32,8 @@ abbrev pub DocumentRead : List ℕ → Counted → List ℕ → List ℕ → Typ
 DocumentRead bs r ps ls = ReadsDocument (documentPart bs) (replicate 2048 0) (replicate 2048 0) r ps ls
 
 -- what was read is the document packet
-pub document-read : (bs : List ℕ) (a : ℕ) (r : Counted) (ps ls : List ℕ) → a ≡ nextAt bs 0 → ReadsDocument (take a bs) (replicate 2048 0) (replicate 2048 0) r ps ls → DocumentRead bs r ps ls
+pub document-read : (bs : List ℕ) (a : ℕ) (r : Counted) (ps ls : List ℕ) → a ≡ nextAt bs 0 → ReadsDocument (take a bs) (replicate 2048 0) (replicate 2048 0) r
+    ps ls → DocumentRead bs r ps ls
 document-read bs a r ps ls e h = subst (λ l. ReadsDocument l (replicate 2048 0) (replicate 2048 0) r ps ls) (ap (λ k. take k bs) e ∙ first-part bs) h
 
 -- a pattern that was read obeys the rules
@@ -45,13 +46,15 @@ rules-valid bs d p e = subst ValidDocument (sym e) (p .1 .1 .1 .0)
 
 module _ (bs : List ℕ) where
   -- the document packet is refused
-  pub document-refused : {before : List ℕ} {s : ℕ} {after : List ℕ} (r : Refusal) (ps ls : List ℕ) (k : ℕ) → k ≡ number r → DocumentRead bs (counted.Refused r) ps ls → Wrote before 0 (refusedLine k documentWord) s after → Printed bs before s after
+  pub document-refused : {before : List ℕ} {s : ℕ} {after : List ℕ} (r : Refusal) (ps ls : List ℕ) (k : ℕ) → k ≡ number r → DocumentRead bs
+      (counted.Refused r) ps ls → Wrote before 0 (refusedLine k documentWord) s after → Printed bs before s after
   document-refused r ps ls k n h w =
       printed (document r (rules-refuse (documentPart bs) 2048 2048 r (omega arith) (omega arith) (h .0)) (ap (λ j. refusedLine j documentWord) n)) w
 
   module _ (a : ℕ) (e : a ≡ nextAt bs 0) (p : Passes (documentRules (documentPart bs))) where
     -- the view packet is refused
-    pub view-refused : {before : List ℕ} {s : ℕ} {after : List ℕ} (r : Refusal) (q : Pattern) (k : ℕ) → k ≡ number r → ReadAt bs a (checked.Refused r) q → Wrote before 0 (refusedLine k viewWord) s after → Printed bs before s after
+    pub view-refused : {before : List ℕ} {s : ℕ} {after : List ℕ} (r : Refusal) (q : Pattern) (k : ℕ) → k ≡ number r → ReadAt bs a (checked.Refused r) q →
+        Wrote before 0 (refusedLine k viewWord) s after → Printed bs before s after
     view-refused r q k n h w = printed (view r p (subst (λ o. Refuses (patternChecks (packetAt bs o)) r) e (h .0)) (ap (λ j. refusedLine j viewWord) n)) w
 
     module _ (U : Pattern) (u : ReadAt bs a checked.Right U) (b : ℕ) (f : b ≡ nextAt bs a) where
@@ -64,7 +67,8 @@ module _ (bs : List ℕ) where
       view-passes = subst (λ o. Passes (patternChecks (packetAt bs o))) e (u .0)
 
       -- the query packet is refused
-      pub query-refused : {before : List ℕ} {s : ℕ} {after : List ℕ} (r : Refusal) (q : Pattern) (k : ℕ) → k ≡ number r → ReadAt bs b (checked.Refused r) q → Wrote before 0 (refusedLine k queryWord) s after → Printed bs before s after
+      pub query-refused : {before : List ℕ} {s : ℕ} {after : List ℕ} (r : Refusal) (q : Pattern) (k : ℕ) → k ≡ number r → ReadAt bs b (checked.Refused r) q →
+          Wrote before 0 (refusedLine k queryWord) s after → Printed bs before s after
       query-refused r q k n h w =
           printed (query r (p, view-passes) (subst (λ o. Refuses (patternChecks (packetAt bs o)) r) at-query (h .0)) (ap (λ j. refusedLine j queryWord) n)) w
 
@@ -78,11 +82,13 @@ module _ (bs : List ℕ) where
         query-passes = subst (λ o. Passes (patternChecks (packetAt bs o))) at-query (q .0)
 
         -- bytes stand past the query
-        pub extra-refused : {before : List ℕ} {s : ℕ} {after : List ℕ} → n < length bs → Wrote before 0 (refusedLine 2 inputWord) s after → Printed bs before s after
+        pub extra-refused : {before : List ℕ} {s : ℕ} {after : List ℕ} → n < length bs → Wrote before 0 (refusedLine 2 inputWord) s after → Printed bs before
+            s after
         extra-refused l w = printed (extra ((p, view-passes), query-passes) (omega (arith, at-end, l)) refl) w
 
         -- all is right
-        pub all-answered : {before : List ℕ} {s : ℕ} {after : List ℕ} (d : Document) → d ≡ documentIn bs → length bs ≤ n → WroteAnswers d Q U before s after → Printed bs before s after
+        pub all-answered : {before : List ℕ} {s : ℕ} {after : List ℕ} (d : Document) → d ≡ documentIn bs → length bs ≤ n → WroteAnswers d Q U before s after →
+            Printed bs before s after
         all-answered d c l w =
             let v = u .1 ∙ ap (λ o. patternOf (packetShape (packetAt bs o))) e in
             let z = q .1 ∙ ap (λ o. patternOf (packetShape (packetAt bs o))) at-query in

@@ -21,7 +21,24 @@ use Rattle.rewriting.proofs.Rewritten.{candidate-unique}
 use Rattle.packets.specs.DocumentPacket.{documentRules}
 use Rattle.asking.specs.Text.{rewritingWord, viewWord, queryWord, documentWord, line, refusedLine}
 use Rattle.asking.specs.Parts.{documentPart, viewPart, queryPart}
-use Rattle.asking.specs.Replies.{ThirdLine, handed, none, refused, Answered, documentIn, queryIn, viewIn, Replies, document, view, query, extra, answered, Printed, ReplyOf}
+use Rattle.asking.specs.Replies.{
+  ThirdLine,
+  handed,
+  none,
+  refused,
+  Answered,
+  documentIn,
+  queryIn,
+  viewIn,
+  Replies,
+  document,
+  view,
+  query,
+  extra,
+  answered,
+  Printed,
+  ReplyOf,
+}
 
 -- one third line fits
 third-unique : (d : Document) (Q U : Pattern) (starts s t : List ℕ) → ThirdLine d Q U starts s → ThirdLine d Q U starts t → s ≡ t
@@ -50,7 +67,8 @@ answered-unique d Q U s t a b =
     ∙ sym (b .is)
 
 -- one line of a refusal fits
-line-unique : (cs : List Check) (w : List ℕ) (r q : Refusal) (s t : List ℕ) → Refuses cs r → Refuses cs q → s ≡ refusedLine (number r) w → t ≡ refusedLine (number q) w → s ≡ t
+line-unique : (cs : List Check) (w : List ℕ) (r q : Refusal) (s t : List ℕ) → Refuses cs r → Refuses cs q → s ≡ refusedLine (number r) w → t ≡ refusedLine
+    (number q) w → s ≡ t
 line-unique cs w r q s t h k e f = e ∙ ap (λ z. refusedLine (number z) w) (refuses-unique cs r q h k) ∙ sym f
 
 module _ (bs : List ℕ) where
@@ -101,12 +119,14 @@ module _ (bs : List ℕ) where
   -- one buffer
   printed-buffer : (before : List ℕ) (c e : ℕ) (a b : List ℕ) → Printed bs before c a → Printed bs before e b → a ≡ b
   printed-buffer before c e a b h k =
-      h .written ∙ ap₂ (λ x n. x ++ drop n before) (replies-unique (h .text) (k .text) (h .replies) (k .replies)) (printed-count before c e a b h k) ∙ sym (k .written)
+      h .written ∙ ap₂ (λ x n. x ++ drop n before) (replies-unique (h .text) (k .text) (h .replies) (k .replies)) (printed-count before c e a b h k) ∙ sym
+      (k .written)
 
   -- one answer and one buffer fit the call
   pub reply-unique : (before : List ℕ) (r q : Counted) (a b : List ℕ) → ReplyOf bs before r a → ReplyOf bs before q b → (r ≡ q) × (a ≡ b)
   reply-unique before r q a b h k =
       let cs : List Check = record { asks = 32768 ≤ length before; gives = 5 } ∷ [] in (
-        counted-unique cs r q (λ c. Printed bs before c a) (a ≡ before) (λ c. Printed bs before c b) (b ≡ before) (λ c e x y. printed-count before c e a b x y) h k,
+        counted-unique cs r q (λ c. Printed bs before c a) (a ≡ before) (λ c. Printed bs before c b) (b ≡ before)
+            (λ c e x y. printed-count before c e a b x y) h k,
         counted-both cs r q (λ c e x y. printed-buffer before c e a b x y) (λ x y. x ∙ sym y) h k,
       )

@@ -36,7 +36,8 @@ wrote-length b at t r a l w =
     ∙ omega (arith, length-append (take at b) t, length-take-le at b (omega arith), length-drop r b)
 
 -- one text after another
-pub wrote-then : {b : List ℕ} {at : ℕ} {t : List ℕ} {r : ℕ} {m u : List ℕ} {s : ℕ} {a : List ℕ} → at ≤ length b → Wrote b at t r m → Wrote m r u s a → Wrote b at (t ++ u) s a
+pub wrote-then : {b : List ℕ} {at : ℕ} {t : List ℕ} {r : ℕ} {m u : List ℕ} {s : ℕ} {a : List ℕ} → at ≤ length b → Wrote b at t r m → Wrote m r u s a → Wrote b
+    at (t ++ u) s a
 wrote-then {b} {at} {t} {r} {m} {u} {s} {a} l w z =
     let e : length (take at b ++ t) ≡ r = omega (arith, length-append (take at b) t, length-take-le at b l, w .end) in
     record {
@@ -84,7 +85,8 @@ unfolding blocks
 spaced-none b at list = record { low = omega arith; same = refl; wrote = wrote-none b at }
 
 -- there is room for number i
-pub spaced-room : (list : List ℕ) (i : ℕ) → i < length list → length (blocks (λ k. item (getD list k 0)) i) + length (item (getD list i 0)) ≤ length (spaced list)
+pub spaced-room : (list : List ℕ) (i : ℕ) → i < length list → length (blocks (λ k. item (getD list k 0)) i) + length (item (getD list i 0)) ≤ length
+    (spaced list)
 unfolding spaced
 spaced-room list i l = blocks-fit (λ k. item (getD list k 0)) (length list) i l
 
@@ -98,7 +100,8 @@ spaced-next b at list i next r out a l m e w c = record {
   wrote = rw add-one (wrote-then l (c .wrote) w);
 }
 
-pub spaced-all : (b : List ℕ) (at : ℕ) (list : List ℕ) (i next : ℕ) (out : List ℕ) → length list ≤ i → Spaced b at list i next out → Wrote b at (spaced list) next out
+pub spaced-all : (b : List ℕ) (at : ℕ) (list : List ℕ) (i next : ℕ) (out : List ℕ) → length list ≤ i → Spaced b at list i next out → Wrote b at (spaced list)
+    next out
 unfolding spaced
 spaced-all b at list i next out l c =
     let e : i ≡ length list = omega (arith, c .low) in

@@ -26,7 +26,8 @@ use Rattle.asking.specs.Parts.{documentPart, viewPart, queryPart, partsE
 -- the third line, for the query Q, the view U and the view's answers: the compensation started at them, or none, or the refusal of more than 32 steps
 pub data ThirdLine (d : Document) (Q U : Pattern) (starts text : List ℕ) : Type 0 where
   -- a compensation is handed over, and started at the view's answers
-  handed : (E : Pattern) (xs : List ℕ) → AnswersRewriting Q U rewriting.Handed E → Lists (Started (In starts) (shapeOf E) d) xs → text ≡ line rewritingWord xs → ThirdLine d Q U starts text
+  handed : (E : Pattern) (xs : List ℕ) → AnswersRewriting Q U rewriting.Handed E → Lists (Started (In starts) (shapeOf E) d) xs → text ≡ line rewritingWord xs
+      → ThirdLine d Q U starts text
   -- there is no rewriting
   none : AnswersRewriting Q U rewriting.Nothing zeroPattern → text ≡ noneLine → ThirdLine d Q U starts text
   -- the query or the view has more than 32 steps
@@ -67,7 +68,8 @@ pub data Replies (bs text : List ℕ) : Type 0 where
   -- the document packet is refused
   document : (r : Refusal) → Refuses (documentRules (documentPart bs)) r → text ≡ refusedLine (number r) documentWord → Replies bs text
   -- the document packet is right, the view packet is refused
-  view : (r : Refusal) → Passes (documentRules (documentPart bs)) → Refuses (patternChecks (viewPart bs)) r → text ≡ refusedLine (number r) viewWord → Replies bs text
+  view : (r : Refusal) → Passes (documentRules (documentPart bs)) → Refuses (patternChecks (viewPart bs)) r → text ≡ refusedLine (number r) viewWord → Replies
+      bs text
   -- the query packet is refused
   query : (r : Refusal) → ViewRight bs → Refuses (patternChecks (queryPart bs)) r → text ≡ refusedLine (number r) queryWord → Replies bs text
   -- all three are right, and bytes stand past them

@@ -81,7 +81,8 @@ fn find_started(
     requires { ⌜ getD (p .axis) 0 0 ≡ 0 ⌝ }
     requires { ⌜ StartList (record { parents = now parents; labels = now labels }) (now starts) ⌝ }
     requires { ⌜ 2048 ≤ length (now list) ⌝ }
-    ensures { λ r. ⌜ Finds (Started (In (now (starts .entry))) (shapeOf p) (record { parents = now (parents .entry); labels = now (labels .entry) })) r (now (list .exit)) ⌝ }
+    ensures { λ r. ⌜ Finds (Started (In (now (starts .entry))) (shapeOf p) (record { parents = now (parents .entry); labels = now (labels .entry) })) r
+        (now (list .exit)) ⌝ }
 {
     let mut work = [0u64; 4096];
     match answers::started(p, parents, labels, starts, list, &mut work) {
@@ -104,7 +105,8 @@ fn put_started(
     requires { ⌜ getD (e .axis) 0 0 ≡ 0 ⌝ }
     requires { ⌜ StartList (record { parents = now parents; labels = now labels }) (now starts) ⌝ }
     requires { ⌜ at + 10256 ≤ length (now out) ⌝ }
-    ensures { λ r. ⌜ WroteLine (Started (In (now (starts .entry))) (shapeOf e) (record { parents = now (parents .entry); labels = now (labels .entry) })) rewritingWord (now (out .entry)) at r (now (out .exit)) ⌝ }
+    ensures { λ r. ⌜ WroteLine (Started (In (now (starts .entry))) (shapeOf e) (record { parents = now (parents .entry); labels = now (labels .entry) }))
+        rewritingWord (now (out .entry)) at r (now (out .exit)) ⌝ }
 {
     let mut list = [0u16; 2048];
     let c = find_started(e, parents, labels, starts, &mut list);
@@ -126,7 +128,8 @@ fn put_third(
     requires { ⌜ ValidDocument (record { parents = now parents; labels = now labels }) ⌝ }
     requires { ⌜ StartList (record { parents = now parents; labels = now labels }) (now starts) ⌝ }
     requires { ⌜ at + 10256 ≤ length (now out) ⌝ }
-    ensures { λ r. ⌜ WroteThird (record { parents = now (parents .entry); labels = now (labels .entry) }) q v (now (starts .entry)) (now (out .entry)) at r (now (out .exit)) ⌝ }
+    ensures { λ r. ⌜ WroteThird (record { parents = now (parents .entry); labels = now (labels .entry) }) q v (now (starts .entry)) (now (out .entry)) at r
+        (now (out .exit)) ⌝ }
 {
     let r = rewriting::rewrite(q, v);
     let answer = r.answer;

@@ -48,9 +48,11 @@ module _ (A B : Pattern) (parents₀ labels₀ : List ℕ) where
       let x = w .1 in
       let n : ℕ = A .count in
       let ps : take m parents ≡ witnessOf (shapeOf A) (x .label) .parents
-      = ap (take m) (x .parent-list) ∙ take-at (witnessOf (shapeOf A) (x .label) .parents) (drop m parents₀) m (parents-length (shapeOf A) (axes va) n (omega arith) ∙ sym (x .count)) in
+      = ap (take m) (x .parent-list) ∙ take-at (witnessOf (shapeOf A) (x .label) .parents) (drop m parents₀) m
+      (parents-length (shapeOf A) (axes va) n (omega arith) ∙ sym (x .count)) in
       let ls : take m labels ≡ witnessOf (shapeOf A) (x .label) .labels
-      = ap (take m) (x .label-list) ∙ take-at (witnessOf (shapeOf A) (x .label) .labels) (drop m labels₀) m (labels-length (shapeOf A) (x .label) (axes va) n (omega arith) ∙ sym (x .count)) in
+      = ap (take m) (x .label-list) ∙ take-at (witnessOf (shapeOf A) (x .label) .labels) (drop m labels₀) m
+      (labels-length (shapeOf A) (x .label) (axes va) n (omega arith) ∙ sym (x .count)) in
       let d : witnessOf (shapeOf A) (x .label) ≡ frontOf m parents labels = λ k. record { parents = sym ps k; labels = sym ls k } in
       subst (λ (j : ℕ). Shows A B (frontOf m parents labels) j) (sym (x .node))
       (subst (λ (y : Document). Shows A B y (answerNode (shapeOf A))) d (record {

@@ -112,7 +112,13 @@ module _ {A B : Shape} {φ : ℕ} {W : Rows} (ax : Axes A) (v : Ordered (A .tree
   pub complete : Ordered (B .tree) → B .output < B .tree .size → Begins B (f 0) → f (B .output) ≡ ownNode A (A .output) → Maps B A shown
   complete vb lo st o = record {
     sends = record {
-      takes = λ t l. record { here = small t l; fits = record { same = sym (w .own-label (shown t) (small t l)) ∙ ap (W .label) (sym (at t l)) ∙ p .takes t l .fits .same } };
+      takes = λ t l. record {
+        here = small t l;
+        fits = record {
+          same = sym (w .own-label (shown t) (small t l)) ∙ ap (W .label) (sym (at t l)) ∙ p .takes t l
+              .fits .same;
+        };
+      };
       edge = λ t q c. go t q c (B .axis t) (p .edge t q c);
     };
     first = λ e. begins (own-mono A 0 (shown 0)) (sym (at 0 (vb .some)) ∙ st e);

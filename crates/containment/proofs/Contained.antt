@@ -62,8 +62,11 @@ module _ (A B : Shape) (l : ℕ) (va : ValidShape A) (vb : ValidShape B) (f : Fr
   -- where B answers the answer node of A's witness, B maps into A
   pub witness-complete : Answer B (witnessOf A l) (answerNode A) → (m : ℕ → ℕ) × Maps B A m
   witness-complete a =
-      let w : Witness A l (nodesOf (witnessOf A l)) = rows A l va (f .label) in
-      (shown (axes va) (shape-ordered va) w unused (a .sends), complete (axes va) (shape-ordered va) w unused (a .sends) (shape-ordered vb) (vb .output) (a .first) (a .at))
+      let w : Witness A l (nodesOf (witnessOf A l)) = rows A l va (f .label) in (
+        shown (axes va) (shape-ordered va) w unused (a .sends),
+        complete (axes va) (shape-ordered va) w unused (a .sends) (shape-ordered vb) (vb .output)
+            (a .first) (a .at),
+      )
 
   -- where B does not map into A, the witness shows the difference
   pub witness-apart : ((m : ℕ → ℕ) × Maps B A m → ⊥) → Answer B (witnessOf A l) (answerNode A) → ⊥

@@ -81,8 +81,10 @@ module _ (B A : Shape) (vb : ValidShape B) (va : ValidShape A) where
       let R : Probe = mapProbe B A in
       let a : Able (mapTask B A) 0 (m 0) = maps-able m h in
       record {
-        maps = fit-maps (best (B .tree) R) (best-fit R (mapTask B A) (BeginsIn B A) probes (m 0) (h .first) a) (best-first R (mapTask B A) (BeginsIn B A) probes (m 0) (h .first) a);
-        least = λ n k. greedy-least (mapTask B A) (BeginsIn B A) (shape-ordered vb) (best (B .tree) R) n (best-greedy R (mapTask B A) (BeginsIn B A) probes) (maps-fit n k) (k .first);
+        maps = fit-maps (best (B .tree) R) (best-fit R (mapTask B A) (BeginsIn B A) probes (m 0) (h .first) a)
+            (best-first R (mapTask B A) (BeginsIn B A) probes (m 0) (h .first) a);
+        least = λ n k. greedy-least (mapTask B A) (BeginsIn B A) (shape-ordered vb) (best (B .tree) R) n (best-greedy R (mapTask B A) (BeginsIn B A) probes)
+            (maps-fit n k) (k .first);
       }
 
 -- no second smallest mapping fits

@@ -39,7 +39,8 @@ pub mapping-more : (f : ℕ → ℕ) (k s : ℕ) → k < 64 → set (mappingArra
 unfolding mappingArray
 mapping-more f k s l =
     map-set (padded f k) k s
-    ∙ ap (map stepNo) (padded-next (upd f k s) (padded f k) k s l (sym (upd-same f k s k refl)) (padded-ext f (upd f k s) k (λ u h. sym (upd-other f k s u (omega arith)))))
+    ∙ ap (map stepNo) (padded-next (upd f k s) (padded f k) k s l (sym (upd-same f k s k refl))
+    (padded-ext f (upd f k s) k (λ u h. sym (upd-other f k s u (omega arith)))))
 
 pub mapping-at : (f : ℕ → ℕ) (k u : ℕ) → u < k → getD (mappingArray f k) u (stepNo 0) ≡ stepNo (f u)
 unfolding mappingArray
@@ -125,9 +126,15 @@ module _ (B A : Shape) (vb : ValidShape B) (va : ValidShape A) where
           | yes e ↦
               let z : o ≡ q = sym (c .up) ∙ ap (B .tree .parent) e in
               let g′ : Goes (rowsOf A) (B .axis k) (f q) j
-              = subst₂ (λ (x : ℕ) (y : ℕ). Goes (rowsOf A) (B .axis x) (f y) j) e z (subst (λ (y : ℕ). Goes (rowsOf A) (B .axis u) y j) (old o (earlier u o l c)) g) in
+              = subst₂ (λ (x : ℕ) (y : ℕ). Goes (rowsOf A) (B .axis x) (f y) j) e z
+              (subst (λ (y : ℕ). Goes (rowsOf A) (B .axis u) y j) (old o (earlier u o l c)) g) in
               omega (arith, pick-found p image-found .1 j (g′, sent j (subst (λ (x : ℕ). Able (mapTask B A) x j) e a)), ap (upd f k r) e, now)
-          | no n ↦ omega (arith, h .next u o j (omega arith) c (subst (λ (y : ℕ). Goes (rowsOf A) (B .axis u) y j) (old o (earlier u o l c)) g) a, old u (omega arith))
+          | no n ↦ omega (
+            arith,
+            h .next u o j (omega arith) c (subst (λ (y : ℕ). Goes (rowsOf A) (B .axis u) y j) (old o (earlier u o l c)) g) a,
+            old u
+                (omega arith),
+          )
         ];
       }
 

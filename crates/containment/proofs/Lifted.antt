@@ -39,8 +39,10 @@ module _ (B A : Shape) (vb : ValidShape B) (va : ValidShape A) where
   pub lift-start : Lifted B A (A .tree .size) (replicate 64 0) (replicate 64 0)
   lift-start = record {
     fits = λ s h l. absurd (omega arith);
-    children = λ s l. rw (getD-replicate {A = ℕ} 64 s 0 0 (omega (arith, va .few))) (marks-none (AtChild B A (A .tree .size) s) (λ t w. omega (arith, w .1, w .2 .here)));
-    below = λ s l. rw (getD-replicate {A = ℕ} 64 s 0 0 (omega (arith, va .few))) (marks-none (Under B A (A .tree .size) s) (λ t w. omega (arith, w .1, w .2 .here)));
+    children = λ s l. rw (getD-replicate {A = ℕ} 64 s 0 0 (omega (arith, va .few)))
+        (marks-none (AtChild B A (A .tree .size) s) (λ t w. omega (arith, w .1, w .2 .here)));
+    below = λ s l. rw (getD-replicate {A = ℕ} 64 s 0 0 (omega (arith, va .few)))
+        (marks-none (Under B A (A .tree .size) s) (λ t w. omega (arith, w .1, w .2 .here)));
   }
 
   -- a step's children are later than the step
@@ -84,7 +86,8 @@ module _ (B A : Shape) (vb : ValidShape B) (va : ValidShape A) where
     own = getD-set-other (set fit i f) p i _ 0 (omega (arith, earlier)) ∙ getD-set-same fit i f 0 long
 
     up : getD fit′ p 0 ≡ bitOr (getD fit p 0) g
-    up = getD-set-same (set fit i f) p _ 0 (simp length-set (omega (arith, earlier))) ∙ ap (λ x. bitOr x g) (getD-set-other fit i p f 0 (omega (arith, earlier)))
+    up = getD-set-same (set fit i f) p _ 0 (simp length-set (omega (arith, earlier))) ∙ ap (λ x. bitOr x g)
+        (getD-set-other fit i p f 0 (omega (arith, earlier)))
 
     -- what the parent gathers
     at-parent : Marks (getD fit′ p 0) (AtChild B A i p)
@@ -93,10 +96,12 @@ module _ (B A : Shape) (vb : ValidShape B) (va : ValidShape A) where
         (λ t w. ⊎-elim
         (λ e. inr (subst (λ (j : ℕ). (A .axis j ≡ 0) × FitsIn B A j t) (sym e) (w .3, w .4)))
         (λ l. inl (w .0, l, w .2, w .3, w .4)) (eq-or-lt-of-le (w .1)))
-        (marks-or (getD fit p 0) g (AtChild B A (suc i) p) (λ t. (A .axis i ≡ 0) × FitsIn B A i t) (u .children p (omega (arith, earlier))) (along (A .axis i) refl)))
+        (marks-or (getD fit p 0) g (AtChild B A (suc i) p) (λ t. (A .axis i ≡ 0) × FitsIn B A i t) (u .children p (omega (arith, earlier)))
+        (along (A .axis i) refl)))
 
     under-parent : Marks (getD under′ p 0) (Under B A i p)
-    under-parent = rw (getD-set-same under p (bitOr (bitOr (getD under p 0) f) (getD under i 0)) 0 (omega (arith, earlier))) (marks-to (bitOr (bitOr (getD under p 0) f) (getD under i 0))
+    under-parent = rw (getD-set-same under p (bitOr (bitOr (getD under p 0) f) (getD under i 0)) 0 (omega (arith, earlier)))
+        (marks-to (bitOr (bitOr (getD under p 0) f) (getD under i 0))
         (λ t. (Under B A (suc i) p t ⊎ FitsIn B A i t) ⊎ Under B A (suc i) i t) (Under B A i p)
         (λ t w. ⊎-elim
         (λ x. ⊎-elim (λ y. (y .0, omega (arith, y .1), y .2, y .3)) (λ y. (i, omega arith, c, (i, inl refl, y))) x)
@@ -119,7 +124,8 @@ module _ (B A : Shape) (vb : ValidShape B) (va : ValidShape A) where
     other : (x : ℕ) → x < i → (x ≡ p → ⊥) → Marks (getD fit′ x 0) (AtChild B A i x) × Marks (getD under′ x 0) (Under B A i x)
     other x l n = (
       rw (old x (omega arith) n) (marks-to (getD fit x 0) (AtChild B A (suc i) x) (AtChild B A i x)
-          (λ t w. (w .0, omega (arith, w .1), w .2, w .3, w .4)) (λ t w. (w .0, aside x (w .0) n (w .1) (w .2), w .2, w .3, w .4)) (u .children x (omega arith))),
+          (λ t w. (w .0, omega (arith, w .1), w .2, w .3, w .4)) (λ t w. (w .0, aside x (w .0) n (w .1) (w .2), w .2, w .3, w .4))
+          (u .children x (omega arith))),
       rw (getD-set-other under p x (bitOr (bitOr (getD under p 0) f) (getD under i 0)) 0 n) (marks-to (getD under x 0) (Under B A (suc i) x) (Under B A i x)
           (λ t w. (w .0, omega (arith, w .1), w .2, w .3)) (λ t w. (w .0, aside x (w .0) n (w .1) (w .2), w .2, w .3)) (u .below x (omega arith))),
     )
@@ -141,7 +147,8 @@ module _ (B A : Shape) (vb : ValidShape B) (va : ValidShape A) where
     }
 
   -- the last turn is step 0's
-  pub lift-root : (f : ℕ) (fit under : List ℕ) → Lifted B A 1 fit under → Marks f (FitsIn B A 0) → 0 < length fit → (s : ℕ) → s < A .tree .size → Marks (getD (set fit 0 f) s 0) (FitsIn B A s)
+  pub lift-root : (f : ℕ) (fit under : List ℕ) → Lifted B A 1 fit under → Marks f (FitsIn B A 0) → 0 < length fit → (s : ℕ) → s < A .tree .size → Marks
+      (getD (set fit 0 f) s 0) (FitsIn B A s)
   lift-root f fit under u m h s l = elim (ℕ-discrete s 0) [
     | yes e ↦ subst (λ (y : ℕ). Marks (getD (set fit 0 f) y 0) (FitsIn B A y)) (sym e) (rw (getD-set-same fit 0 f 0 h) m)
     | no n ↦ rw (getD-set-other fit 0 s f 0 n) (u .fits s (omega arith) l)

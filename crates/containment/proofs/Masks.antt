@@ -106,7 +106,8 @@ module _ (B : Shape) (c d ch de ne out n : ℕ) (who kids : List ℕ) (p : PlanO
   to-group : (s t : ℕ) → LaterChild B s t → Missing t → Reached who kids missing n s
   to-group s t k h =
       let g = p .groups .all s t k in
-      let b = marks-and missing (getD kids (g .0) 0) Missing (λ u. bit (getD kids (g .0) 0) u ≡ 1) marks-missing (marks-bits (getD kids (g .0) 0)) .put t (h, g .3) in
+      let b = marks-and missing (getD kids (g .0) 0) Missing (λ u. bit (getD kids (g .0) 0) u ≡ 1) marks-missing (marks-bits (getD kids (g .0) 0)) .put t
+      (h, g .3) in
       (g .0, g .1, bit-some _ t b, subst (λ (x : ℕ). bit x s ≡ 1) (sym (g .2)) (bit-pow s))
 
   -- the steps just before those that are missing among the next ones, and those that the groups give

@@ -88,4 +88,5 @@ own-first A t z = ap (ownNode A) z ∙ own-zero A ∙ ap (A .axis) (sym z)
 pub descendants-le : (A : Shape) → Axes A → (k : ℕ) → k ≤ A .tree .size → descendants A k ≤ k
 unfolding descendants
 descendants-le A ax zero l = omega arith
-descendants-le A ax (suc k) l = ⊎-elim (λ e. omega (arith, descendants-le A ax k (omega arith))) (λ e. omega (arith, descendants-le A ax k (omega arith))) (ax k l)
+descendants-le A ax (suc k) l = ⊎-elim (λ e. omega (arith, descendants-le A ax k (omega arith))) (λ e. omega (arith, descendants-le A ax k (omega arith)))
+    (ax k l)

@@ -41,7 +41,8 @@ module _ (B : Shape) (low mid high : List ℕ) where
   }
 
   -- three parts tell a label
-  pub of-label : (l : ℕ) → Labelled B low mid high → Marks (bitAnd (bitAnd (getD low (l % 64) 0) (getD mid (l / 64 % 64) 0)) (getD high (l / 4096) 0)) (OfLabel B l)
+  pub of-label : (l : ℕ) → Labelled B low mid high → Marks (bitAnd (bitAnd (getD low (l % 64) 0) (getD mid (l / 64 % 64) 0)) (getD high (l / 4096) 0))
+      (OfLabel B l)
   of-label l t =
       let x = getD low (l % 64) 0 in
       let y = getD mid (l / 64 % 64) 0 in
@@ -65,7 +66,11 @@ module _ (to : List ℕ) (next : ℕ) where
     groups-skip e = record {
       few = omega (arith, g .few);
       each = λ j l. let w = g .each j l in (w .0, omega (arith, w .1), w .2, w .3);
-      all = λ u l n. elim (ℕ-discrete u s) [ yes h ↦ absurd (n (subst (λ (x : ℕ). without (getD to x 0) next ≡ 0) (sym h) e)) | no h ↦ g .all u (omega arith) n ];
+      all = λ u l n. elim (ℕ-discrete u s) [
+        | yes h ↦ absurd (n (subst (λ (x : ℕ). without (getD to x 0) next ≡ 0) (sym h) e))
+        | no h ↦ g .all u (omega arith)
+            n
+      ];
     }
 
     module _ (x : ℕ) (e : x ≡ without (getD to s 0) next) (a : k < length who) (b : k < length kids) where
@@ -131,7 +136,8 @@ module _ (who kids : List ℕ) (m : ℕ) where
       ])
 
   -- entry k has one
-  pub reached-more : (x k : ℕ) → (bitAnd m (getD kids k 0) ≡ 0 → ⊥) → Marks x (Reached who kids m k) → Marks (bitOr x (getD who k 0)) (Reached who kids m (k + 1))
+  pub reached-more : (x k : ℕ) → (bitAnd m (getD kids k 0) ≡ 0 → ⊥) → Marks x (Reached who kids m k) → Marks (bitOr x (getD who k 0))
+      (Reached who kids m (k + 1))
   reached-more x k n w = marks-to (bitOr x (getD who k 0)) (λ s. Reached who kids m k s ⊎ (bit (getD who k 0) s ≡ 1)) (Reached who kids m (k + 1))
       (λ s o. ⊎-elim (λ q. (q .0, omega (arith, q .1), q .2, q .3)) (λ b. (k, omega arith, n, b)) o)
       (λ s q. elim (ℕ-discrete (q .0) k) [

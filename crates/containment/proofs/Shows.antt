@@ -30,7 +30,12 @@ module _ {A : Shape} {φ : ℕ} {W : Rows} (ax : Axes A) (v : Ordered (A .tree))
       go s q c (inr e) =
           let i : ℕ = W .tree .parent (ownNode A s) in
           let d : suc i ≡ ownNode A s = w .own-down s (c .here) e in
-          let upper : Child (W .tree) (ownNode A q) i = record { late = omega (arith, past s, c .late); here = omega (arith, inside s (c .here)); up = w .new-up s q i c e d } in
+          let upper : Child (W .tree) (ownNode A q) i = record {
+            late = omega (arith, past s, c .late);
+            here = omega (arith, inside s (c .here));
+            up = w
+                .new-up s q i c e d;
+          } in
           let lower : Child (W .tree) i (ownNode A s) = record { late = omega (arith, past s, c .late); here = inside s (c .here); up = refl } in
           rw e (under lower (child upper))
 
@@ -53,9 +58,11 @@ module _ {A : Shape} {φ : ℕ} {W : Rows} (ax : Axes A) (v : Ordered (A .tree))
       hangs : (t : ℕ) → t < A .tree .size → 0 < t → Child (A .tree) (A .tree .parent t) t
       hangs t l p = record { late = p; here = l; up = refl }
 
-      off : (i : ℕ) (t : ℕ) → t < A .tree .size → For A t (suc i) → (A .axis t ≡ 0) ⊎ (A .axis t ≡ 1) → Dec (t ≡ 0) → (W .tree .parent (suc i) ≡ i) ⊎ Below (W .tree) (W .tree .parent (suc i)) i
+      off : (i : ℕ) (t : ℕ) → t < A .tree .size → For A t (suc i) → (A .axis t ≡ 0) ⊎ (A .axis t ≡ 1) → Dec (t ≡ 0) → (W .tree .parent (suc i) ≡ i) ⊎ Below
+          (W .tree) (W .tree .parent (suc i)) i
       off i t l (own e) (inl a) (yes z) = absurd (omega (arith, own-first A t z))
-      off i t l (own e) (inl a) (no z) = follows t i (omega arith) l (omega arith) (ap (W .tree .parent) e ∙ w .own-along t (A .tree .parent t) (hangs t l (omega arith)) a)
+      off i t l (own e) (inl a) (no z) = follows t i (omega arith) l (omega arith)
+          (ap (W .tree .parent) e ∙ w .own-along t (A .tree .parent t) (hangs t l (omega arith)) a)
       off i t l (own e) (inr a) z = inl (omega (arith, w .own-down t l a, ap (W .tree .parent) e))
       off i t l (new a e) x (yes z) = absurd (omega (arith, own-first A t z))
       off i t l (new a e) x (no z) = follows t i (omega arith) l (omega arith) (w .new-up t (A .tree .parent t) (suc i) (hangs t l (omega arith)) a e)

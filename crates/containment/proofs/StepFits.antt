@@ -55,8 +55,13 @@ module _ (B A : Shape) (vb : ValidShape B) where
     fits-by : (t : ℕ) → FitsIn B A s t → FitsBy B (A .label s) last c e t
     fits-by t h =
         let a = fits-able s t h in
-        let o = able-ok (mapTask B A) a in
-        (h .here, sym (o .0 .fits .same), λ z. out .1 (o .1 z), λ u k. let n = able-next (mapTask B A) a u k in has u (k .here) (B .axis u) (n .0) (n .1) (n .2))
+        let o = able-ok (mapTask B A) a in (
+          h .here,
+          sym (o .0 .fits .same),
+          λ z. out .1 (o .1 z),
+          λ u k. let n = able-next (mapTask B A) a u k in has u (k .here) (B .axis u) (n .0) (n .1)
+              (n .2),
+        )
 
     -- the steps found from the masks are those that fit
     pub step-fits : (x : ℕ) → Marks x (FitsBy B (A .label s) last c e) → Marks x (FitsIn B A s)

@@ -25,26 +25,35 @@ use Rattle.containment.proofs.FreshLabel.{fresh-unique}
 within-unique : (A B : Pattern) (m n : List StepNo) → Within A B m → Within A B n → m ≡ n
 unfolding mappingArray
 within-unique A B m n h k =
-    h .array ∙ ap (map stepNo) (padded-ext (h .by) (k .by) (B .count) (least-map-unique (shapeOf B) (shapeOf A) (h .by) (k .by) (h .least) (k .least))) ∙ sym (k .array)
+    h .array ∙ ap (map stepNo) (padded-ext (h .by) (k .by) (B .count) (least-map-unique (shapeOf B) (shapeOf A) (h .by) (k .by) (h .least) (k .least))) ∙ sym
+    (k .array)
 
 module _ (A B : Pattern) (parents₀ labels₀ parents labels parents′ labels′ : List ℕ) where
   Same : Containment → Containment → List StepNo → List StepNo → Type 0
   Same a b m n = (a ≡ b) × (m ≡ n) × (parents ≡ parents′) × (labels ≡ labels′)
 
-  apart-unique : (c e : ℕ) (x y : NodeNo) (m n : List StepNo) → m ≡ n → ApartBy A B parents₀ labels₀ c (x .0) parents labels → ApartBy A B parents₀ labels₀ e (y .0) parents′ labels′
+  apart-unique : (c e : ℕ) (x y : NodeNo) (m n : List StepNo) → m ≡ n → ApartBy A B parents₀ labels₀ c (x .0) parents labels → ApartBy A B parents₀ labels₀ e
+      (y .0) parents′ labels′
       → Same (containment.Apart c x) (containment.Apart e y) m n
   unfolding Same
   apart-unique c e x y m n z h k =
       let l : h .label ≡ k .label = fresh-unique (h .fresh) (k .fresh) in
       let u : c ≡ e = h .count ∙ sym (k .count) in
       let w : x ≡ y = ap (λ (i : ℕ). record { 0 = i }) (h .node ∙ sym (k .node)) in
-      let p : witnessOf (shapeOf A) (h .label) ≡ witnessOf (shapeOf A) (k .label) = ap (witnessOf (shapeOf A)) l in
-      (ap₂ containment.Apart u w, z, h .parent-list ∙ ap₂ (λ d i. d .parents ++ drop i parents₀) p u ∙ sym (k .parent-list), h .label-list ∙ ap₂ (λ d i. d .labels ++ drop i labels₀) p u ∙ sym (k .label-list))
+      let p : witnessOf (shapeOf A) (h .label) ≡ witnessOf (shapeOf A) (k .label) = ap (witnessOf (shapeOf A)) l in (
+        ap₂ containment.Apart u w,
+        z,
+        h .parent-list ∙ ap₂ (λ d i. d .parents ++ drop i parents₀) p u ∙ sym (k .parent-list),
+        h .label-list ∙ ap₂
+            (λ d i. d .labels ++ drop i labels₀) p u ∙ sym (k .label-list),
+      )
 
-  mixed : (r : Refusal) → Refuses (containmentChecks A B (length parents₀) (length labels₀)) r → Passes (containmentChecks A B (length parents₀) (length labels₀)) → ⊥
+  mixed : (r : Refusal) → Refuses (containmentChecks A B (length parents₀) (length labels₀)) r → Passes
+      (containmentChecks A B (length parents₀) (length labels₀)) → ⊥
   mixed r h p = refuses-not-passes (containmentChecks A B (length parents₀) (length labels₀)) r h p
 
-  answers-unique : (a b : Containment) (m n : List StepNo) → AnswersContainment A B parents₀ labels₀ a m parents labels → AnswersContainment A B parents₀ labels₀ b n parents′ labels′ → Same a b m n
+  answers-unique : (a b : Containment) (m n : List StepNo) → AnswersContainment A B parents₀ labels₀ a m parents labels → AnswersContainment A B parents₀
+      labels₀ b n parents′ labels′ → Same a b m n
   unfolding Same
   answers-unique containment.Contained containment.Contained m n h k = (refl, within-unique A B m n (h .1) (k .1), h .2 ∙ sym (k .2), h .3 ∙ sym (k .3))
   answers-unique containment.Contained (containment.Apart e y) m n h k = absurd (k .1 .not-contained (h .1 .contained))
@@ -54,12 +63,18 @@ module _ (A B : Pattern) (parents₀ labels₀ parents labels parents′ labels�
   answers-unique (containment.Apart c x) (containment.Refused q) m n h k = absurd (mixed q (k .0) (h .0))
   answers-unique (containment.Refused r) containment.Contained m n h k = absurd (mixed r (h .0) (k .0))
   answers-unique (containment.Refused r) (containment.Apart e y) m n h k = absurd (mixed r (h .0) (k .0))
-  answers-unique (containment.Refused r) (containment.Refused q) m n h k =
-      (ap containment.Refused (refuses-unique (containmentChecks A B (length parents₀) (length labels₀)) r q (h .0) (k .0)), h .1 ∙ sym (k .1), h .2 ∙ sym (k .2), h .3 ∙ sym (k .3))
+  answers-unique (containment.Refused r) (containment.Refused q) m n h k = (
+    ap containment.Refused (refuses-unique (containmentChecks A B (length parents₀) (length labels₀)) r q (h .0) (k .0)),
+    h .1 ∙ sym (k .1),
+    h .2 ∙ sym
+        (k .2),
+    h .3 ∙ sym (k .3),
+  )
 
 -- two answers to one call are one, and so are the lists that they leave
 pub containment-unique : (A B : Pattern) (parents₀ labels₀ : List ℕ) (r q : ContainmentAnswer) (parents labels parents′ labels′ : List ℕ)
-    → DecidesContainment A B parents₀ labels₀ r parents labels → DecidesContainment A B parents₀ labels₀ q parents′ labels′ → (r ≡ q) × (parents ≡ parents′) × (labels ≡ labels′)
+    → DecidesContainment A B parents₀ labels₀ r parents labels → DecidesContainment A B parents₀ labels₀ q parents′ labels′ → (r ≡ q) × (parents ≡ parents′) ×
+    (labels ≡ labels′)
 unfolding Same
 containment-unique A B parents₀ labels₀ r q parents labels parents′ labels′ h k =
     let s = answers-unique A B parents₀ labels₀ parents labels parents′ labels′ (r .answer) (q .answer) (r .mapping) (q .mapping) h k in

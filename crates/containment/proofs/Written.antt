@@ -29,7 +29,8 @@ own-row A b h s l =
     ap (λ i. getD (blocks b (A .tree .size)) i 0) (omega (arith, widths-length A b h s (omega arith)))
     ∙ blocks-at b (A .tree .size) s (A .axis s) l (omega (arith, h s l))
 
-new-row : (A : Shape) (b : ℕ → List ℕ) → Blocks A b → (s i : ℕ) → s < A .tree .size → A .axis s ≡ 1 → suc i ≡ ownNode A s → getD (blocks b (A .tree .size)) i 0 ≡ getD (b s) 0 0
+new-row : (A : Shape) (b : ℕ → List ℕ) → Blocks A b → (s i : ℕ) → s < A .tree .size → A .axis s ≡ 1 → suc i ≡ ownNode A s → getD (blocks b (A .tree .size)) i
+    0 ≡ getD (b s) 0 0
 unfolding Blocks ownNode descendants
 new-row A b h s i l a e =
     ap (λ i. getD (blocks b (A .tree .size)) i 0) (omega (arith, widths-length A b h s (omega arith)))

@@ -59,8 +59,8 @@ fn takes(x: u64, t: usize, axis: u8, q: usize, p: usize, own: u8) -> bool
     own == 0
 }
 
-// The smallest of n steps that may take step t, of this axis, where its parent step is at q; 64 where there is none. The steps hang by `parents` and `axes`. What is
-// below q stands in one run after q: where any step of it may take t, the first after q that fits is not past the run.
+// The smallest of n steps that may take step t, of this axis, where its parent step is at q; 64 where there is none. The steps hang by `parents` and `axes`.
+// What is below q stands in one run after q: where any step of it may take t, the first after q that fits is not past the run.
 fn next_image(
     parents: &[u8; 64],
     axes: &[u8; 64],
@@ -72,7 +72,8 @@ fn next_image(
 ) -> usize
     requires { ⌜ (n ≤ 64) × (t < 64) × (q < n) ⌝ }
     requires { ⌜ ((j : ℕ) → 0 < j → j < n → getD (now parents) j 0 < 64) ⌝ }
-    ensures { λ r. ⌜ ((A : Shape) → Listed A (now (parents .entry)) (now (axes .entry)) n → ((j : ℕ) × ImageAt A (now (fit .entry)) t axis q j) → Picks (ImageAt A (now (fit .entry)) t axis q) r) ⌝ }
+    ensures { λ r. ⌜ ((A : Shape) → Listed A (now (parents .entry)) (now (axes .entry)) n → ((j : ℕ) × ImageAt A (now (fit .entry)) t axis q j) → Picks
+        (ImageAt A (now (fit .entry)) t axis q) r) ⌝ }
 {
     let mut s = q + 1;
     while s < n {

@@ -159,7 +159,8 @@ struct Masks {
 // The steps of b that have a child step with no place: c has the steps with a place at a child edge, d those with one below.
 fn lacking(m: Masks, who: &[u64; 64], kids: &[u64; 64], c: u64, d: u64) -> u64
     requires { ⌜ m .groups ≤ 64 ⌝ }
-    ensures { λ r. ⌜ ((B : Shape) → PlanOf B (m .child) (m .descendant) (m .next) (m .output) (m .groups) (now (who .entry)) (now (kids .entry)) → Marks r (Lacks B c d)) ⌝ }
+    ensures { λ r. ⌜ ((B : Shape) → PlanOf B (m .child) (m .descendant) (m .next) (m .output) (m .groups) (now (who .entry)) (now (kids .entry)) → Marks r
+        (Lacks B c d)) ⌝ }
 {
     let all = m.child | m.descendant;
     let have = (c & m.child) | (d & m.descendant);
@@ -181,7 +182,8 @@ fn fits(
     d: u64,
 ) -> u64
     requires { ⌜ m .groups ≤ 64 ⌝ }
-    ensures { λ r. ⌜ ((B : Shape) → Labelled B (now (low .entry)) (now (mid .entry)) (now (high .entry)) → PlanOf B (m .child) (m .descendant) (m .next) (m .output) (m .groups) (now (who .entry)) (now (kids .entry)) → Marks r (FitsBy B l last c d)) ⌝ }
+    ensures { λ r. ⌜ ((B : Shape) → Labelled B (now (low .entry)) (now (mid .entry)) (now (high .entry)) → PlanOf B (m .child) (m .descendant) (m .next)
+        (m .output) (m .groups) (now (who .entry)) (now (kids .entry)) → Marks r (FitsBy B l last c d)) ⌝ }
 {
     let x = labelled(low, mid, high, l);
     if x == 0 {
@@ -220,7 +222,8 @@ fn raise(
     requires { ⌜ ValidPattern a ⌝ }
     requires { ⌜ m .groups ≤ 64 ⌝ }
     requires { ⌜ now fit ≡ replicate 64 0 ⌝ }
-    ensures { λ _. ⌜ ((B : Shape) → Labelled B (now (low .entry)) (now (mid .entry)) (now (high .entry)) → PlanOf B (m .child) (m .descendant) (m .next) (m .output) (m .groups) (now (who .entry)) (now (kids .entry)) → FitTable B (shapeOf a) (now (fit .exit))) ⌝ }
+    ensures { λ _. ⌜ ((B : Shape) → Labelled B (now (low .entry)) (now (mid .entry)) (now (high .entry)) → PlanOf B (m .child) (m .descendant) (m .next)
+        (m .output) (m .groups) (now (who .entry)) (now (kids .entry)) → FitTable B (shapeOf a) (now (fit .exit))) ⌝ }
 {
     let mut under = [0u64; 64];
     let output = a.output.0 as usize;

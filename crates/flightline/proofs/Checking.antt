@@ -33,7 +33,8 @@ test d (answers A xs) = isPattern (shapeOf A) && sameList (answersOf (shapeOf A)
 test d (packet A bs) = isPattern (shapeOf A) && (sameList (patternPacket (shapeOf A)) bs && samePattern A (patternOf (packetShape bs)))
 test d (working A ws) = isPattern (shapeOf A) && (eqb (length ws) (2 * nodeCount d) && sameList (workingOf (shapeOf A) d (begins (shapeOf A))) ws)
 test d (contained A B ms) =
-    isPattern (shapeOf A) && (isPattern (shapeOf B) && (mapsInto (shapeOf B) (shapeOf A) && sameList (column (leastMapping (shapeOf B) (shapeOf A)) (B .count)) ms))
+    isPattern (shapeOf A) && (isPattern (shapeOf B) && (mapsInto (shapeOf B) (shapeOf A) && sameList
+    (column (leastMapping (shapeOf B) (shapeOf A)) (B .count)) ms))
 test d (apart A B l w i) =
     isPattern (shapeOf A) && (isPattern (shapeOf B) && (not (mapsInto (shapeOf B) (shapeOf A)) && (eqb (freshLabel (shapeOf A) (shapeOf B)) l
     && (sameDocument (witnessOf (shapeOf A) l) w && eqb (answerNode (shapeOf A)) i))))
@@ -55,8 +56,11 @@ valid A t = tells-pattern (shapeOf A) .says t
 pub test-sound : (d : Document) → ValidDocument d → (f : Fact) → T (test d f) → Holds d f
 unfolding test
 test-sound d vd (answers A xs) t =
-    let p = and-both (isPattern (shapeOf A)) _ t in
-    (valid A (p .0), subst (Lists (Answer (shapeOf A) d)) (same-list _ xs (p .1)) (answers-of (shapeOf A) d (begins (shapeOf A)) (Begins (shapeOf A)) (valid A (p .0)) vd (tells-begins (shapeOf A))))
+    let p = and-both (isPattern (shapeOf A)) _ t in (
+      valid A (p .0),
+      subst (Lists (Answer (shapeOf A) d)) (same-list _ xs (p .1))
+          (answers-of (shapeOf A) d (begins (shapeOf A)) (Begins (shapeOf A)) (valid A (p .0)) vd (tells-begins (shapeOf A))),
+    )
 test-sound d vd (packet A bs) t =
     let p = and-both (isPattern (shapeOf A)) _ t in
     let q = and-both (sameList (patternPacket (shapeOf A)) bs) _ (p .1) in
@@ -77,8 +81,12 @@ test-sound d vd (contained A B ms) t =
     let r = and-both (mapsInto (shapeOf B) (shapeOf A)) _ (q .1) in
     let va : ValidPattern A = valid A (p .0) in
     let vb : ValidPattern B = valid B (q .0) in
-    let m = tells-maps (shapeOf B) (shapeOf A) vb va .says (r .0) in
-    (va, vb, tells-contained (shapeOf B) (shapeOf A) vb va .says (r .0), (leastMapping (shapeOf B) (shapeOf A), least-mapping (shapeOf B) (shapeOf A) vb va (m .0) (m .1), same-list _ ms (r .1)))
+    let m = tells-maps (shapeOf B) (shapeOf A) vb va .says (r .0) in (
+      va,
+      vb,
+      tells-contained (shapeOf B) (shapeOf A) vb va .says (r .0),
+      (leastMapping (shapeOf B) (shapeOf A), least-mapping (shapeOf B) (shapeOf A) vb va (m .0) (m .1), same-list _ ms (r .1)),
+    )
 test-sound d vd (apart A B l w i) t =
     let p = and-both (isPattern (shapeOf A)) _ t in
     let q = and-both (isPattern (shapeOf B)) _ (p .1) in
@@ -98,7 +106,8 @@ test-sound d vd (apart A B l w i) t =
       n,
       subst ValidDocument e (witness-valid (shapeOf A) l va (f .label)),
       subst₂ (Answer (shapeOf A)) e n (witness-answers (shapeOf A) l va (f .label)),
-      λ a. witness-apart (shapeOf A) (shapeOf B) l va vb f (tells-not (tells-maps (shapeOf B) (shapeOf A) vb va) .says (r .0)) (subst₂ (Answer (shapeOf B)) (sym e) (sym n) a),
+      λ a. witness-apart (shapeOf A) (shapeOf B) l va vb f (tells-not (tells-maps (shapeOf B) (shapeOf A) vb va) .says (r .0))
+          (subst₂ (Answer (shapeOf B)) (sym e) (sym n) a),
     )
 test-sound d vd (equal A B) t =
     let p = and-both (isPattern (shapeOf A)) _ t in

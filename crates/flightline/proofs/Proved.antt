@@ -21,7 +21,22 @@ use Rattle.rewriting.specs.Candidate.{pathTo, mainPath, cutStep}
 use Rattle.rewriting.proofs.Cuts.{howMany, cutShape}
 use Rattle.rewriting.proofs.Deciding.{candidateOf, hasCandidate, joinEqual, rewritable}
 use Rattle.flightline.specs.Fact.{pattern, AllHold}
-use Rattle.flightline.specs.Table.{line, view, posed, controlled, topStrip, nestedStrips, framePosed, linePoses, lineStrips, stripPoses, twoFrames, oneFrame, viewWitness, cases}
+use Rattle.flightline.specs.Table.{
+  line,
+  view,
+  posed,
+  controlled,
+  topStrip,
+  nestedStrips,
+  framePosed,
+  linePoses,
+  lineStrips,
+  stripPoses,
+  twoFrames,
+  oneFrame,
+  viewWitness,
+  cases,
+}
 use Rattle.flightline.proofs.Checking.{test, testAll, test-all}
 
 line-valid : ValidDocument line
@@ -30,7 +45,11 @@ line-valid = tells-document line .says tt
 
 -- the table passes
 cases-pass : T (testAll line cases)
-unfolding cases line view posed controlled topStrip nestedStrips framePosed linePoses lineStrips stripPoses twoFrames oneFrame viewWitness pattern patternOf tableOf blocks test testAll isPattern stepRight isLabel hangsRight isFrom isBelow climbs isChild every some sameList samePattern sameDocument stepBytes patternPacket packetShape firstFrom pick chosen best passing can canSend wholeTo canWhole labelFits takes begins isIn isStartList answersOf entriesOf workingOf mask descendants ownNode hook parentsFor labelsFor witnessOf mapsInto leastMapping standsIn isFree freshLabel renumber byPart joinShape joinOf pathTo mainPath cutStep howMany cutShape candidateOf hasCandidate joinEqual rewritable
+unfolding cases line view posed controlled topStrip nestedStrips framePosed linePoses lineStrips stripPoses twoFrames oneFrame viewWitness pattern patternOf
+    tableOf blocks test testAll isPattern stepRight isLabel hangsRight isFrom isBelow climbs isChild every some sameList samePattern sameDocument stepBytes
+    patternPacket packetShape firstFrom pick chosen best passing can canSend wholeTo canWhole labelFits takes begins isIn isStartList answersOf entriesOf
+    workingOf mask descendants ownNode hook parentsFor labelsFor witnessOf mapsInto leastMapping standsIn isFree freshLabel renumber byPart joinShape joinOf
+    pathTo mainPath cutStep howMany cutShape candidateOf hasCandidate joinEqual rewritable
 cases-pass = tt
 
 -- the flight line obeys the rules, and the table holds

@@ -1,4 +1,5 @@
--- The kinds of fact in the table of flight line seven (docs/RULES.md, "Flight line seven"), and what each says in the terms of the definitions. Assumes nothing.
+-- The kinds of fact in the table of flight line seven (docs/RULES.md, "Flight line seven"), and what each says in the terms of the definitions. Assumes
+-- nothing.
 use Prim.Native.Nat.{ℕ, _*_}
 use mathlib.Core.Path.{_≡_}
 use mathlib.Core.List.{List, [], _∷_}

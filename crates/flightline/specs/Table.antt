@@ -1,4 +1,5 @@
--- Flight line seven (docs/RULES.md, "Flight line seven"): the document, the patterns, and the table of cases 1 to 11, with the slip of a cut at the first label. Labels: 1 line, 2 strip, 3 frame, 4 pose, 5 control. Assumes nothing.
+-- Flight line seven (docs/RULES.md, "Flight line seven"): the document, the patterns, and the table of cases 1 to 11, with the slip of a cut at the first
+-- label. Labels: 1 line, 2 strip, 3 frame, 4 pose, 5 control. Assumes nothing.
 use mathlib.Core.List.{List, [], _∷_}
 use Rattle.tables.specs.Document.{Document}
 use Rattle.tables.specs.declared.Pattern.{Pattern}

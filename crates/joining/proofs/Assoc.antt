@@ -41,7 +41,14 @@ module _ {A B C AB BC L R : Shape} {b c d : ℕ} (ab : Joined A B AB b) (l : Joi
   of-a : (s : ℕ) → renumber (AB .output) c (renumber (A .output) b s) ≡ renumber (A .output) d s
   of-a s = renumber-cases (A .output) b s
       (λ h x. omega (arith, ap (renumber (AB .output) c) x, renumber-low (AB .output) c s (omega (arith, ab .output)), renumber-low (A .output) d s h))
-      (λ h x. omega (arith, ap (renumber (AB .output) c) x, renumber-high (AB .output) c (s + b) (omega (arith, ab .output, ab .more)), renumber-high (A .output) d s h, sums))
+      (λ h x. omega (
+        arith,
+        ap (renumber (AB .output) c) x,
+        renumber-high (AB .output) c (s + b) (omega (arith, ab .output, ab .more)),
+        renumber-high
+            (A .output) d s h,
+        sums,
+      ))
 
   -- and of a step of B
   of-b : (t : ℕ) → renumber (AB .output) c (A .output + t) ≡ A .output + renumber (B .output) c t
@@ -70,7 +77,8 @@ module _ {A B C AB BC L R : Shape} {b c d : ℕ} (ab : Joined A B AB b) (l : Joi
   -- a column is the same both ways
   column-same : {ka kb kc kab kbc kl kr : ℕ → ℕ} → Column A B b ka kb kab → Column AB C c kab kc kl → Column B C c kb kc kbc → Column A BC d ka kbc kr
       → (u : ℕ) → Origin u → kl u ≡ kr u
-  column-same {kl = kl} {kr = kr} w x y z u (from-a s m e f) = ap kl f ∙ x .old (renumber (A .output) b s) (renumber-small ab la s m) ∙ w .old s m ∙ sym (ap kr e ∙ z .old s m)
+  column-same {kl = kl} {kr = kr} w x y z u (from-a s m e f) = ap kl f ∙ x .old (renumber (A .output) b s) (renumber-small ab la s m) ∙ w .old s m ∙ sym
+      (ap kr e ∙ z .old s m)
   column-same {kl = kl} {kr = kr} w x y z u (from-b t p m e f) =
       ap kl f ∙ x .old (A .output + t) (omega (arith, ab .size, ab .more)) ∙ w .new t p m
       ∙ sym (ap kr e ∙ z .new (renumber (B .output) c t) (renumber-late bc lb t p) (renumber-small bc lb t m) ∙ y .old t m)
@@ -81,13 +89,18 @@ module _ {A B C AB BC L R : Shape} {b c d : ℕ} (ab : Joined A B AB b) (l : Joi
   -- and so are the parents
   parent-same : (u : ℕ) → 0 < u → Origin u → L .tree .parent u ≡ R .tree .parent u
   parent-same u h (from-a s m e f) =
-      let k : Child (A .tree) (A .tree .parent s) s = record { late = late-renumber ab la s (late-renumber l outs (renumber (A .output) b s) (omega arith)); here = m; up = refl } in
+      let k : Child (A .tree) (A .tree .parent s) s = record {
+        late = late-renumber ab la s (late-renumber l outs (renumber (A .output) b s) (omega arith));
+        here = m;
+        up = refl;
+      } in
       ap (L .tree .parent) f ∙ l .view-up (renumber (A .output) b s) (renumber (A .output) b (A .tree .parent s)) (view-child ab la k)
       ∙ of-a (A .tree .parent s) ∙ sym (ap (R .tree .parent) e ∙ r .view-up s (A .tree .parent s) k)
   parent-same u h (from-b t p m e f) =
       let k : Child (B .tree) (B .tree .parent t) t = record { late = p; here = m; up = refl } in
       ap (L .tree .parent) f ∙ l .view-up (A .output + t) (A .output + B .tree .parent t) (tail-child ab la k)
-      ∙ of-b (B .tree .parent t) ∙ sym (ap (R .tree .parent) e ∙ r .tail-up (renumber (B .output) c t) (renumber (B .output) c (B .tree .parent t)) (view-child bc lb k))
+      ∙ of-b (B .tree .parent t) ∙ sym (ap (R .tree .parent) e ∙ r .tail-up (renumber (B .output) c t) (renumber (B .output) c (B .tree .parent t))
+      (view-child bc lb k))
   parent-same u h (from-c t p m e) =
       let k : Child (C .tree) (C .tree .parent t) t = record { late = p; here = m; up = refl } in
       let f : u ≡ A .output + (B .output + t) = omega (arith, ab .output) in
@@ -154,7 +167,8 @@ pairs-left {A} {B} {C} p q =
 -- the two ways give one table, by what joining checks
 pub pairs-assoc : {A B C : Pattern} → Pair A B → Pair (joinOf A B) C → Pair B C → Pair A (joinOf B C) → joinOf (joinOf A B) C ≡ joinOf A (joinOf B C)
 pairs-assoc {A} {B} {C} p q v w =
-    sym (join-clean (joinOf A B) C) ∙ pattern-of-agree (joined-assoc (pair-joined p) (pair-joined q) (pair-joined v) (pair-joined w) (p .view .output) (p .tail .output)) ∙ join-clean A (joinOf B C)
+    sym (join-clean (joinOf A B) C) ∙ pattern-of-agree (joined-assoc (pair-joined p) (pair-joined q) (pair-joined v) (pair-joined w) (p .view .output)
+    (p .tail .output)) ∙ join-clean A (joinOf B C)
 
 -- the one way is accepted exactly where the other is
 pub join-assoc-accepted : (A B C : Pattern) → (Joinable A B × Joinable (joinOf A B) C) ↔ (Joinable B C × Joinable A (joinOf B C))
@@ -164,11 +178,13 @@ join-assoc-accepted A B C = (
 )
 
 -- the two ways give one table
-pub join-assoc : (A B C : Pattern) → Joinable A B → Joinable (joinOf A B) C → Joinable B C → Joinable A (joinOf B C) → joinOf (joinOf A B) C ≡ joinOf A (joinOf B C)
+pub join-assoc : (A B C : Pattern) → Joinable A B → Joinable (joinOf A B) C → Joinable B C → Joinable A (joinOf B C) → joinOf (joinOf A B) C ≡ joinOf A
+    (joinOf B C)
 join-assoc A B C p q v w = pairs-assoc (pair-of A B p) (pair-of (joinOf A B) C q) (pair-of B C v) (pair-of A (joinOf B C) w)
 
 -- it is enough that one way is accepted
-pub join-assoc-either : (A B C : Pattern) → (Joinable A B × Joinable (joinOf A B) C) ⊎ (Joinable B C × Joinable A (joinOf B C)) → joinOf (joinOf A B) C ≡ joinOf A (joinOf B C)
+pub join-assoc-either : (A B C : Pattern) → (Joinable A B × Joinable (joinOf A B) C) ⊎ (Joinable B C × Joinable A (joinOf B C)) → joinOf (joinOf A B) C ≡
+    joinOf A (joinOf B C)
 join-assoc-either A B C h = ⊎-elim
     (λ x. let y = join-assoc-accepted A B C .0 x in join-assoc A B C (x .0) (x .1) (y .0) (y .1))
     (λ y. let x = join-assoc-accepted A B C .1 y in join-assoc A B C (x .0) (x .1) (y .0) (y .1))

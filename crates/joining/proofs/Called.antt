@@ -38,35 +38,45 @@ called-valid U E r h e = subst ValidPattern (sym (called-gives U E r h e)) (join
 pub called-answers : (U E : Pattern) (r : JoinAnswer) → Joins U E r → r .answer ≡ checked.Right → (d : Document) (i : ℕ)
     → Answer (shapeOf (r .pattern)) d i ↔ Started (Answer (shapeOf U) d) (shapeOf E) d i
 called-answers U E r h e d i =
-    subst (λ p. Answer (shapeOf p) d i ↔ Started (Answer (shapeOf U) d) (shapeOf E) d i) (sym (called-gives U E r h e)) (join-answers U E (called-accepts U E r h .0 e) d i)
+    subst (λ p. Answer (shapeOf p) d i ↔ Started (Answer (shapeOf U) d) (shapeOf E) d i) (sym (called-gives U E r h e))
+    (join-answers U E (called-accepts U E r h .0 e) d i)
 
-module _ (A B C : Pattern) (ab l bc r : JoinAnswer) (jab : Joins A B ab) (jl : Joins (ab .pattern) C l) (jbc : Joins B C bc) (jr : Joins A (bc .pattern) r) where
-  -- the two calls of the one way answer exactly where the pairs can be joined
-  left-right : ((ab .answer ≡ checked.Right) × (l .answer ≡ checked.Right)) ↔ (Joinable A B × Joinable (joinOf A B) C)
-  left-right = (
-    λ w. (called-accepts A B ab jab .0 (w .0), subst (λ p. Joinable p C) (called-gives A B ab jab (w .0)) (called-accepts (ab .pattern) C l jl .0 (w .1))),
-    λ w. let e = called-accepts A B ab jab .1 (w .0) in (e, called-accepts (ab .pattern) C l jl .1 (subst (λ p. Joinable p C) (sym (called-gives A B ab jab e)) (w .1))),
-  )
+module _ (A B C : Pattern) (ab l bc r : JoinAnswer) (jab : Joins A B ab) (jl : Joins (ab .pattern) C l) (jbc : Joins B C bc) (jr : Joins A (bc .pattern) r)
+  where
+    -- the two calls of the one way answer exactly where the pairs can be joined
+    left-right : ((ab .answer ≡ checked.Right) × (l .answer ≡ checked.Right)) ↔ (Joinable A B × Joinable (joinOf A B) C)
+    left-right = (
+      λ w. (called-accepts A B ab jab .0 (w .0), subst (λ p. Joinable p C) (called-gives A B ab jab (w .0)) (called-accepts (ab .pattern) C l jl .0 (w .1))),
+      λ w. let e = called-accepts A B ab jab .1 (w .0) in (
+        e,
+        called-accepts (ab .pattern) C l jl .1
+            (subst (λ p. Joinable p C) (sym (called-gives A B ab jab e)) (w .1)),
+      ),
+    )
 
-  -- and so do those of the other
-  right-right : ((bc .answer ≡ checked.Right) × (r .answer ≡ checked.Right)) ↔ (Joinable B C × Joinable A (joinOf B C))
-  right-right = (
-    λ w. (called-accepts B C bc jbc .0 (w .0), subst (Joinable A) (called-gives B C bc jbc (w .0)) (called-accepts A (bc .pattern) r jr .0 (w .1))),
-    λ w. let e = called-accepts B C bc jbc .1 (w .0) in (e, called-accepts A (bc .pattern) r jr .1 (subst (Joinable A) (sym (called-gives B C bc jbc e)) (w .1))),
-  )
+    -- and so do those of the other
+    right-right : ((bc .answer ≡ checked.Right) × (r .answer ≡ checked.Right)) ↔ (Joinable B C × Joinable A (joinOf B C))
+    right-right = (
+      λ w. (called-accepts B C bc jbc .0 (w .0), subst (Joinable A) (called-gives B C bc jbc (w .0)) (called-accepts A (bc .pattern) r jr .0 (w .1))),
+      λ w. let e = called-accepts B C bc jbc .1 (w .0) in (
+        e,
+        called-accepts A (bc .pattern) r jr .1
+            (subst (Joinable A) (sym (called-gives B C bc jbc e)) (w .1)),
+      ),
+    )
 
-  -- joining three answers the one way exactly where it does the other
-  pub called-either : ((ab .answer ≡ checked.Right) × (l .answer ≡ checked.Right)) ↔ ((bc .answer ≡ checked.Right) × (r .answer ≡ checked.Right))
-  called-either = (
-    λ w. right-right .1 (join-assoc-accepted A B C .0 (left-right .0 w)),
-    λ w. left-right .1 (join-assoc-accepted A B C .1 (right-right .0 w)),
-  )
+    -- joining three answers the one way exactly where it does the other
+    pub called-either : ((ab .answer ≡ checked.Right) × (l .answer ≡ checked.Right)) ↔ ((bc .answer ≡ checked.Right) × (r .answer ≡ checked.Right))
+    called-either = (
+      λ w. right-right .1 (join-assoc-accepted A B C .0 (left-right .0 w)),
+      λ w. left-right .1 (join-assoc-accepted A B C .1 (right-right .0 w)),
+    )
 
-  -- and gives one pattern
-  pub called-assoc : ab .answer ≡ checked.Right → l .answer ≡ checked.Right → l .pattern ≡ r .pattern
-  called-assoc f g =
-      let x = left-right .0 (f, g) in
-      let y = join-assoc-accepted A B C .0 x in
-      let w = right-right .1 y in
-      called-gives (ab .pattern) C l jl g ∙ ap (λ p. joinOf p C) (called-gives A B ab jab f) ∙ join-assoc A B C (x .0) (x .1) (y .0) (y .1)
-      ∙ sym (called-gives A (bc .pattern) r jr (w .1) ∙ ap (joinOf A) (called-gives B C bc jbc (w .0)))
+    -- and gives one pattern
+    pub called-assoc : ab .answer ≡ checked.Right → l .answer ≡ checked.Right → l .pattern ≡ r .pattern
+    called-assoc f g =
+        let x = left-right .0 (f, g) in
+        let y = join-assoc-accepted A B C .0 x in
+        let w = right-right .1 y in
+        called-gives (ab .pattern) C l jl g ∙ ap (λ p. joinOf p C) (called-gives A B ab jab f) ∙ join-assoc A B C (x .0) (x .1) (y .0) (y .1)
+        ∙ sym (called-gives A (bc .pattern) r jr (w .1) ∙ ap (joinOf A) (called-gives B C bc jbc (w .0)))

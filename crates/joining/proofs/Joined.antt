@@ -1,4 +1,5 @@
--- What the join of a view U and a compensation E is, step by step. All that is proved of joins is proved of `Joined`, and the table that joining gives has it. Assumes nothing.
+-- What the join of a view U and a compensation E is, step by step. All that is proved of joins is proved of `Joined`, and the table that joining gives has it.
+-- Assumes nothing.
 use Prim.Native.Nat.{ℕ, suc, _+_, _-_, _≤_, _<_}
 use mathlib.Core.Path.{_≡_, refl, sym, ap, _∙_}
 use native.Mathlib.Omega.{arith}
@@ -159,7 +160,8 @@ pair-joinable p = (p .view, (p .tail, (p .start, (p .same, (p .few, tt)))))
 -- the table of such a pair is the join
 pub pair-joined : {U E : Pattern} → Pair U E → Joined (shapeOf U) (shapeOf E) (shapeOf (joinOf U E)) (added (shapeOf E))
 unfolding joinOf
-pair-joined {U} {E} p = joined-agree (p .view .output) (pattern-of-shape (joinShape (shapeOf U) (shapeOf E))) (shape-joined (shape-ordered (p .view)) (p .tail .some))
+pair-joined {U} {E} p = joined-agree (p .view .output) (pattern-of-shape (joinShape (shapeOf U) (shapeOf E)))
+    (shape-joined (shape-ordered (p .view)) (p .tail .some))
 
 -- the table that joining gives is the join
 pub joined : (U E : Pattern) → Joinable U E → Joined (shapeOf U) (shapeOf E) (shapeOf (joinOf U E)) (added (shapeOf E))

@@ -37,7 +37,8 @@ module _ {U E J : Shape} {e : ℕ} (j : Joined U E J e) (lo : U .output < U .tre
   before-view ve s i x = go (ℕ-discrete s (U .output)) (decLt (U .output) s)
     where
       go : Dec (s ≡ U .output) → Dec (U .output < s) → From (J .tree) (renumber (U .output) e s) i
-      go (yes z) d = subst₂ (From (J .tree)) {x = U .output + 0} (omega (arith, renumber-low (U .output) e s (omega arith))) (omega (arith, renumber-high (U .output) e (suc s) (omega arith)))
+      go (yes z) d = subst₂ (From (J .tree)) {x = U .output + 0} (omega (arith, renumber-low (U .output) e s (omega arith)))
+          (omega (arith, renumber-high (U .output) e (suc s) (omega arith)))
           (tail-from 0 e (from-root ve e (omega (arith, j .more))))
       go (no z) (yes d) = inl (omega (arith, renumber-high (U .output) e (suc s) (omega arith), renumber-high (U .output) e s d))
       go (no z) (no d) = inl (omega (arith, renumber-low (U .output) e (suc s) (omega arith), renumber-low (U .output) e s (omega arith)))
@@ -51,7 +52,8 @@ module _ {U E J : Shape} {e : ℕ} (j : Joined U E J e) (lo : U .output < U .tre
       go (view zero h x) = absurd (omega (arith, renumber-zero j lo))
       go (view (suc s) h x) =
           let d : Child (U .tree) (U .tree .parent (suc s)) (suc s) = record { late = omega arith; here = h; up = refl } in
-          let y : J .tree .parent (suc i) ≡ renumber (U .output) e (U .tree .parent (suc s)) = ap (J .tree .parent) x ∙ j .view-up (suc s) (U .tree .parent (suc s)) d in
+          let y : J .tree .parent (suc i) ≡ renumber (U .output) e (U .tree .parent (suc s)) = ap (J .tree .parent) x ∙ j .view-up (suc s)
+          (U .tree .parent (suc s)) d in
           rw y (from-trans (view-from (U .tree .parent (suc s)) s (vu .order s h)) (before-view ve s i x))
       go (tail zero m h x) = absurd (omega arith)
       go (tail (suc t) m h x) =

@@ -22,6 +22,7 @@ answerOf a p = record { answer = a; pattern = p }
 -- no second answer fits
 pub joins-unique : (U E : Pattern) (r q : JoinAnswer) → Joins U E r → Joins U E q → r ≡ q
 joins-unique U E r q h k =
-    let a : r .answer ≡ q .answer = decided-unique (joinChecks U E) (r .answer) (q .answer) (r .pattern ≡ joinOf U E) (r .pattern ≡ zeroPattern) (q .pattern ≡ joinOf U E) (q .pattern ≡ zeroPattern) h k in
+    let a : r .answer ≡ q .answer = decided-unique (joinChecks U E) (r .answer) (q .answer) (r .pattern ≡ joinOf U E) (r .pattern ≡ zeroPattern)
+    (q .pattern ≡ joinOf U E) (q .pattern ≡ zeroPattern) h k in
     let b : r .pattern ≡ q .pattern = beside U E (q .answer) (r .pattern) (q .pattern) (rw a at h) k in
     ap₂ answerOf a b

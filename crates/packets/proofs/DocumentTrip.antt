@@ -12,7 +12,18 @@ use Rattle.tables.specs.declared.Counted.{Counted}
 use Rattle.tables.proofs.Columns.{blocks-ext, column-length, column-at, column-ext, column-self}
 use Rattle.tables.proofs.Refusals.{counted-unique}
 use Rattle.packets.specs.Bytes.{Bytes, high, low, half}
-use Rattle.packets.specs.DocumentPacket.{nodeBytes, documentPacket, nodesIn, packetDocument, DocumentSized, documentChecks, nodeChecks, ReadsBy, ReadsNodes, ReadsDocument}
+use Rattle.packets.specs.DocumentPacket.{
+  nodeBytes,
+  documentPacket,
+  nodesIn,
+  packetDocument,
+  DocumentSized,
+  documentChecks,
+  nodeChecks,
+  ReadsBy,
+  ReadsNodes,
+  ReadsDocument,
+}
 use Rattle.packets.proofs.Halves.{half-of-bytes, high-half, low-half, packet-length, packet-half, four, packet-self}
 use Rattle.tables.proofs.Outcomes.{counted-both}
 
@@ -116,5 +127,6 @@ reads-nodes-unique bs parents₀ labels₀ = reads-by-unique (nodeChecks bs (len
 
 -- nor of reading the document
 pub reads-document-unique : (bs parents₀ labels₀ : List ℕ) (r q : Counted) (parents parents′ labels labels′ : List ℕ)
-    → ReadsDocument bs parents₀ labels₀ r parents labels → ReadsDocument bs parents₀ labels₀ q parents′ labels′ → (r ≡ q) × (parents ≡ parents′) × (labels ≡ labels′)
+    → ReadsDocument bs parents₀ labels₀ r parents labels → ReadsDocument bs parents₀ labels₀ q parents′ labels′ → (r ≡ q) × (parents ≡ parents′) ×
+    (labels ≡ labels′)
 reads-document-unique bs parents₀ labels₀ = reads-by-unique (documentChecks bs (length parents₀) (length labels₀)) bs parents₀ labels₀

@@ -17,9 +17,32 @@ use Rattle.tables.proofs.Trees.{parent-lt}
 use Rattle.tables.proofs.Rules.{Agree, shape-ordered, pattern-of-shape, agree-sym, pattern-of-agree}
 use Rattle.tables.proofs.Refusals.{decided-unique, counted-unique}
 use Rattle.packets.specs.Bytes.{Bytes, high, low, half}
-use Rattle.packets.specs.PatternPacket.{patternLength, stepBytes, patternPacket, packetShape, PatternSized, patternChecks, ReadsPattern, writeChecks, WritesPattern}
+use Rattle.packets.specs.PatternPacket.{
+  patternLength,
+  stepBytes,
+  patternPacket,
+  packetShape,
+  PatternSized,
+  patternChecks,
+  ReadsPattern,
+  writeChecks,
+  WritesPattern,
+}
 use Rattle.packets.specs.declared.PatternRead.{PatternRead}
-use Rattle.packets.proofs.Halves.{half-of-bytes, high-half, low-half, high-byte, low-byte, bytes-four, bytes-blocks, packet-length, packet-at, packet-half, four, packet-self}
+use Rattle.packets.proofs.Halves.{
+  half-of-bytes,
+  high-half,
+  low-half,
+  high-byte,
+  low-byte,
+  bytes-four,
+  bytes-blocks,
+  packet-length,
+  packet-at,
+  packet-half,
+  four,
+  packet-self,
+}
 use Rattle.tables.proofs.Agreement.{valid-agree}
 use Rattle.tables.proofs.Outcomes.{decided-both, counted-both}
 

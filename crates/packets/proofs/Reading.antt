@@ -117,7 +117,8 @@ headed-few bs h = let z = h .1 .1 .0 .1 in omega (arith, z .few, z .field)
 
 -- the document, by the rules and the room, where the header is right
 module _ (bs : List ℕ) (a b : ℕ) (h : Passes (take 3 (documentRules bs))) where
-  pub document-rules-refuse : (r : Refusal) → Refuses (record { asks = ValidDocument (packetDocument bs); gives = 4 } ∷ []) r → Refuses (documentChecks bs a b) r
+  pub document-rules-refuse : (r : Refusal) → Refuses (record { asks = ValidDocument (packetDocument bs); gives = 4 } ∷ []) r → Refuses
+      (documentChecks bs a b) r
   document-rules-refuse r w = inr (h .0, inr (h .1 .0, inr (h .1 .1 .0, ⊎-elim inl (λ x. absurd (x .1)) w)))
 
   pub document-room-refuses : ValidDocument (packetDocument bs) → ((nodesIn bs ≤ a) × (nodesIn bs ≤ b) → ⊥) → Refuses (documentChecks bs a b) Room

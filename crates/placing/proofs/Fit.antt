@@ -28,7 +28,8 @@ module _ (P : Task) where
     pub edge : (u q : ℕ) → Child (P .tree) q u → From (P .tree) s q → P .edge u (f q) (f u)
 
   pub data Able : ℕ → ℕ → Type 0 where
-    able : {s i : ℕ} → P .ok s i → (next : (t : ℕ) → Child (P .tree) s t → ℕ) → ((t : ℕ) (c : Child (P .tree) s t) → P .edge t i (next t c)) → ((t : ℕ) (c : Child (P .tree) s t) → Able t (next t c)) → Able s i
+    able : {s i : ℕ} → P .ok s i → (next : (t : ℕ) → Child (P .tree) s t → ℕ) → ((t : ℕ) (c : Child (P .tree) s t) → P .edge t i (next t c)) →
+        ((t : ℕ) (c : Child (P .tree) s t) → Able t (next t c)) → Able s i
 
   pub able-ok : {s i : ℕ} → Able s i → P .ok s i
   able-ok (able o n e r) = o
@@ -91,7 +92,8 @@ module _ (P : Task) where
         edge = λ u q h d w. below-or-at h
             (λ h. subst₂ (P .edge u) (sym (other q (omega (arith, below-lt v (child d))))) (sym (other u h)) (p .edge u q h d w))
             (λ e. subst (λ (x : ℕ). P .edge x (g q) (g x)) (sym e)
-            (subst₂ (P .edge k) (sym (other q (omega (arith, below-lt v (child d))) ∙ ap (p .by) (sym (d .up) ∙ ap (P .tree .parent) e))) (sym (same k refl)) (n .1)));
+            (subst₂ (P .edge k) (sym (other q (omega (arith, below-lt v (child d))) ∙ ap (p .by) (sym (d .up) ∙ ap (P .tree .parent) e))) (sym (same k refl))
+            (n .1)));
       }
         where
           c : Child (P .tree) (P .tree .parent k) k
@@ -158,7 +160,11 @@ module _ (P : Task) where
         let p = able-fit v 0 i (v .some) a in
         record {
           by = p .0;
-          fit = record { ok = λ u l. p .1 .ok u (from-root v u l); edge = λ u q c. p .1 .edge u q c (from-root v q (omega (arith, below-lt v (child c), c .here))) };
+          fit = record {
+            ok = λ u l. p .1 .ok u (from-root v u l);
+            edge = λ u q c. p .1 .edge u q c
+                (from-root v q (omega (arith, below-lt v (child c), c .here)));
+          };
           start = subst Start (sym (p .1 .at)) st;
           at = p .1 .at;
         }
@@ -200,7 +206,8 @@ module _ (P : Task) where
         edge u r d (yes z) b =
             let y : r ≡ q = sym (d .up) ∙ ap (P .tree .parent) (sym z) ∙ c .up in
             subst (λ (n : ℕ). P .edge n (x r) (x n)) z
-            (subst₂ (P .edge s) (sym (past r (λ w. ⊎-elim (λ k. omega (arith, below-lt v (child c))) (λ k. omega (arith, below-lt v (child c), below-lt v k)) w) ∙ ap f y ∙ h .at))
+            (subst₂ (P .edge s) (sym (past r (λ w. ⊎-elim (λ k. omega (arith, below-lt v (child c))) (λ k. omega (arith, below-lt v (child c), below-lt v k))
+            w) ∙ ap f y ∙ h .at))
             (sym (into s (inl refl) ∙ p .1 .at)) e)
         edge u r d (no z) (yes b) = subst₂ (P .edge u) (sym (into r (below-parent b d))) (sym (into u (inr b))) (p .1 .edge u r d (below-parent b d))
         edge u r d (no z) (no b) =

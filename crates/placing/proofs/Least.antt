@@ -43,7 +43,8 @@ module _ (P : Task) (First : ℕ → Type 0) (v : Ordered (P .tree)) (f g : ℕ 
   at-most t l e = ⊎-elim
       (λ z. subst (λ (x : ℕ). f x ≤ g x) (sym z) (h .first (g 0) st (can 0 (v .some))))
       (λ p. let c : Child (P .tree) (P .tree .parent t) t = record { late = p; here = l; up = refl } in
-      h .next t (P .tree .parent t) (g t) c (subst (λ (x : ℕ). P .edge t x (g t)) (sym (e (P .tree .parent t) (below-lt v (child c)))) (k .edge t (P .tree .parent t) c)) (can t l))
+      h .next t (P .tree .parent t) (g t) c (subst (λ (x : ℕ). P .edge t x (g t)) (sym (e (P .tree .parent t) (below-lt v (child c))))
+      (k .edge t (P .tree .parent t) c)) (can t l))
       (eq-zero-or-pos t)
 
   to : (n : ℕ) → n ≤ P .tree .size → NoLater f g n
@@ -52,7 +53,8 @@ module _ (P : Task) (First : ℕ → Type 0) (v : Ordered (P .tree)) (f g : ℕ 
     where
       go : NoLater f g n → NoLater f g (suc n)
       go (less t m e d) = less t (omega arith) e d
-      go (same e) = ⊎-elim (λ z. same (λ u m. below-or-at m (e u) (λ y. ap f y ∙ z ∙ ap g (sym y)))) (λ d. less n (omega arith) e d) (eq-or-lt-of-le (at-most n (omega arith) e))
+      go (same e) = ⊎-elim (λ z. same (λ u m. below-or-at m (e u) (λ y. ap f y ∙ z ∙ ap g (sym y)))) (λ d. less n (omega arith) e d)
+          (eq-or-lt-of-le (at-most n (omega arith) e))
 
   -- a greedy list is no later than any that fits
   pub greedy-least : NoLater f g (P .tree .size)

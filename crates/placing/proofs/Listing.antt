@@ -21,7 +21,8 @@ ascending-lt xs a j (suc k) h l = below-or-at h
 
 module _ (P : ℕ → Type 0) where
   -- where the first k entries agree, entry k of the second list is there and is no larger
-  follow : (xs ys : List ℕ) → Lists P xs → Lists P ys → (k : ℕ) → ((j : ℕ) → j < k → getD xs j 0 ≡ getD ys j 0) → k < length xs → (k < length ys) × (getD ys k 0 ≤ getD xs k 0)
+  follow : (xs ys : List ℕ) → Lists P xs → Lists P ys → (k : ℕ) → ((j : ℕ) → j < k → getD xs j 0 ≡ getD ys j 0) → k < length xs → (k < length ys) ×
+      (getD ys k 0 ≤ getD xs k 0)
   follow xs ys a b k e l = go (b .complete (getD xs k 0) (a .sound (getD xs k 0) (record { place = k; early = l; is = refl })))
     where
       go : In ys (getD xs k 0) → (k < length ys) × (getD ys k 0 ≤ getD xs k 0)

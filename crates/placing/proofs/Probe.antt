@@ -85,7 +85,8 @@ module _ (R : Probe) (P : Task) (First : ℕ → Type 0) (p : Probes R P First) 
       let q : ℕ = P .tree .parent (suc s) in
       let c : Child (P .tree) q (suc s) = record { late = omega arith; here = m; up = refl } in
       let d : q < suc s = below-lt (p .ordered) (child c) in
-      tells-iff (tells-and (tells-can (suc s) i m) (tells-some (λ j. tells-and (whole-tells k q j (omega arith) (omega arith)) (p .edge (suc s) j i)) (R .bound))) (
+      tells-iff (tells-and (tells-can (suc s) i m) (tells-some (λ j. tells-and (whole-tells k q j (omega arith) (omega arith)) (p .edge (suc s) j i))
+      (R .bound))) (
         λ x. whole-down P First (p .ordered) (suc s) q i (x .1 .0) c (x .1 .2 .0) (x .1 .2 .1) (x .0),
         λ w. (
           whole-able P First (p .ordered) (suc s) i m w,

@@ -48,7 +48,8 @@ takes X l i = ltb i (X .tree .size) && labelFits l (X .label i)
 
 pub tells-takes : (X : Rows) (l i : ℕ) → Tells (takes X l i) (Takes X l i)
 unfolding takes
-tells-takes X l i = tells-iff (tells-and (tells-lt i (X .tree .size)) (tells-fits l (X .label i))) (λ p. record { here = p .0; fits = p .1 }, λ h. (h .here, h .fits))
+tells-takes X l i = tells-iff (tells-and (tells-lt i (X .tree .size)) (tells-fits l (X .label i)))
+    (λ p. record { here = p .0; fits = p .1 }, λ h. (h .here, h .fits))
 
 abbrev pub goes : Rows → ℕ → ℕ → ℕ → Bool
 goes X zero j i = isChild (X .tree) j i && eqb (X .axis i) 0
@@ -61,7 +62,8 @@ tells-goes X v (suc a) j i = tells-below (X .tree) v j i
 abbrev pub probe : Shape → Rows → (ℕ → Bool) → Probe
 probe A X first = record { ok = λ s i. takes X (A .label s) i; edge = λ s j i. goes X (A .axis s) j i; first = first; bound = X .tree .size }
 
-module _ (A : Shape) (X : Rows) (first : ℕ → Bool) (First : ℕ → Type 0) (va : Ordered (A .tree)) (vx : Ordered (X .tree)) (tells-first : (i : ℕ) → Tells (first i) (First i)) where
+module _ (A : Shape) (X : Rows) (first : ℕ → Bool) (First : ℕ → Type 0) (va : Ordered (A .tree)) (vx : Ordered (X .tree))
+    (tells-first : (i : ℕ) → Tells (first i) (First i)) where
   probes : Probes (probe A X first) (task A X) First
   probes = record {
     ordered = va;

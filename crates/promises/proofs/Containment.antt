@@ -1,5 +1,5 @@
--- The containment call says contained exactly where it is so on every document; where it says apart, the document that it hands over tells the two patterns apart by the
--- Answers call itself. Assumes nothing.
+-- The containment call says contained exactly where it is so on every document; where it says apart, the document that it hands over tells the two patterns
+-- apart by the Answers call itself. Assumes nothing.
 use Prim.Native.Nat.{ℕ}
 use mathlib.Core.Path.{_≡_, refl}
 use mathlib.Core.Logic.{_↔_}
@@ -37,13 +37,17 @@ module _ (A B : Pattern) (parents₀ labels₀ : List ℕ) where
   contained-exactly r parents labels h c = exactly (r .answer) (r .mapping) parents labels h c
 
   -- where it says apart, the Answers call lists the answer node for A on the document handed over
-  pub apart-listed : (r : ContainmentAnswer) (parents labels : List ℕ) (m : ℕ) (i : NodeNo) → DecidesContainment A B parents₀ labels₀ r parents labels → r .answer ≡ containment.Apart m i
+  pub apart-listed : (r : ContainmentAnswer) (parents labels : List ℕ) (m : ℕ) (i : NodeNo) → DecidesContainment A B parents₀ labels₀ r parents labels → r
+      .answer ≡ containment.Apart m i
       → (l₀ w₀ : List ℕ) (c : ℕ) (l w : List ℕ) → FindsAnswers A (frontOf m parents labels) l₀ w₀ (counted.Count c) l w → In (take c l) (i .0)
   apart-listed r parents labels m i h e l₀ w₀ c l w f =
-      front (shapeOf A) (frontOf m parents labels) (Begins (shapeOf A)) l₀ w₀ c l w (f .1) .complete (i .0) (call-apart A B parents₀ labels₀ r parents labels m i h e .answers)
+      front (shapeOf A) (frontOf m parents labels) (Begins (shapeOf A)) l₀ w₀ c l w (f .1) .complete (i .0)
+      (call-apart A B parents₀ labels₀ r parents labels m i h e .answers)
 
   -- and does not for B
-  pub apart-missed : (r : ContainmentAnswer) (parents labels : List ℕ) (m : ℕ) (i : NodeNo) → DecidesContainment A B parents₀ labels₀ r parents labels → r .answer ≡ containment.Apart m i
+  pub apart-missed : (r : ContainmentAnswer) (parents labels : List ℕ) (m : ℕ) (i : NodeNo) → DecidesContainment A B parents₀ labels₀ r parents labels → r
+      .answer ≡ containment.Apart m i
       → (l₀ w₀ : List ℕ) (c : ℕ) (l w : List ℕ) → FindsAnswers B (frontOf m parents labels) l₀ w₀ (counted.Count c) l w → In (take c l) (i .0) → ⊥
   apart-missed r parents labels m i h e l₀ w₀ c l w f x =
-      call-apart A B parents₀ labels₀ r parents labels m i h e .misses (front (shapeOf B) (frontOf m parents labels) (Begins (shapeOf B)) l₀ w₀ c l w (f .1) .sound (i .0) x)
+      call-apart A B parents₀ labels₀ r parents labels m i h e .misses
+      (front (shapeOf B) (frontOf m parents labels) (Begins (shapeOf B)) l₀ w₀ c l w (f .1) .sound (i .0) x)

@@ -1,5 +1,5 @@
--- The join call, the Answers call and its started form agree: the joined pattern has, list for list, the answers found by starting the compensation at the view's
--- answers. Assumes nothing.
+-- The join call, the Answers call and its started form agree: the joined pattern has, list for list, the answers found by starting the compensation at the
+-- view's answers. Assumes nothing.
 use Prim.Native.Nat.{ℕ}
 use mathlib.Core.Path.{_≡_, sym, ap, _∙_, subst}
 use mathlib.Core.Logic.{_↔_}
@@ -19,7 +19,8 @@ use Rattle.joining.specs.declared.JoinAnswer.{JoinAnswer}
 use Rattle.joining.proofs.Called.{called-answers}
 
 -- the front of the list that a call leaves is the list of the answers
-pub front : (A : Shape) (d : Document) (First : ℕ → Type 0) (list₀ work₀ : List ℕ) (c : ℕ) (list work : List ℕ) → Found A d First list₀ work₀ c list work → Lists (Started First A d) (take c list)
+pub front : (A : Shape) (d : Document) (First : ℕ → Type 0) (list₀ work₀ : List ℕ) (c : ℕ) (list work : List ℕ) → Found A d First list₀ work₀ c list work →
+    Lists (Started First A d) (take c list)
 front A d First list₀ work₀ c list work h =
     subst (Lists (Started First A d)) (sym (ap (take c) (h .written) ∙ take-at (h .answers) (drop c list₀) c (sym (h .count)))) (h .lists)
 

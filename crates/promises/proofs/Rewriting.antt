@@ -1,5 +1,5 @@
--- The rewriting call hands a compensation over exactly where some joinable one gives the query's answers on every document; the one handed over does, and is contained
--- in every other that does. Assumes nothing.
+-- The rewriting call hands a compensation over exactly where some joinable one gives the query's answers on every document; the one handed over does, and is
+-- contained in every other that does. Assumes nothing.
 use Prim.Native.Nat.{ℕ}
 use mathlib.Core.Path.{_≡_, refl, subst}
 use mathlib.Core.Logic.{_↔_}
@@ -23,7 +23,8 @@ use Rattle.rewriting.proofs.Rewritten.{rewriting-exact, candidate-narrowest}
 not-handed : {X : Type 0} → rewriting.Nothing ≡ rewriting.Handed → X
 not-handed e = let z : _≡_ {A = ℕ} 0 1 = cc in absurd (omega arith)
 
-exactly : (Q U : Pattern) (a : Rewriting) (p : Pattern) → AnswersRewriting Q U a p → Passes (rewritingChecks Q U) → (a ≡ rewriting.Handed) ↔ ((E : Pattern) × Serves Q U E)
+exactly : (Q U : Pattern) (a : Rewriting) (p : Pattern) → AnswersRewriting Q U a p → Passes (rewritingChecks Q U) → (a ≡ rewriting.Handed) ↔
+    ((E : Pattern) × Serves Q U E)
 exactly Q U rewriting.Handed p h c = (λ e. (p, h .2), λ w. refl)
 exactly Q U rewriting.Nothing p h c = (
   λ e. not-handed e,
@@ -32,7 +33,8 @@ exactly Q U rewriting.Nothing p h c = (
 exactly Q U (rewriting.Refused r) p h c = absurd (refuses-not-passes (rewritingChecks Q U) r (h .0) c)
 
 -- where the checks pass, a compensation is handed over exactly where some joinable one serves
-pub handed-exactly : (Q U : Pattern) (r : RewritingAnswer) → Rewrites Q U r → Passes (rewritingChecks Q U) → (r .answer ≡ rewriting.Handed) ↔ ((E : Pattern) × Serves Q U E)
+pub handed-exactly : (Q U : Pattern) (r : RewritingAnswer) → Rewrites Q U r → Passes (rewritingChecks Q U) → (r .answer ≡ rewriting.Handed) ↔
+    ((E : Pattern) × Serves Q U E)
 handed-exactly Q U r h c = exactly Q U (r .answer) (r .pattern) h c
 
 -- the one handed over serves
@@ -48,7 +50,8 @@ handed-answers Q U r h e d v i =
     (λ a. s .equal .to d v i (j .1 a), λ a. j .0 (s .equal .back d v i a))
 
 -- and is contained in every compensation that serves
-pub handed-narrowest : (Q U E : Pattern) (r : RewritingAnswer) → Rewrites Q U r → r .answer ≡ rewriting.Handed → Serves Q U E → Contained (shapeOf (r .pattern)) (shapeOf E)
+pub handed-narrowest : (Q U E : Pattern) (r : RewritingAnswer) → Rewrites Q U r → r .answer ≡ rewriting.Handed → Serves Q U E → Contained
+    (shapeOf (r .pattern)) (shapeOf E)
 handed-narrowest Q U E r h e s =
     let k = subst (λ (a : Rewriting). AnswersRewriting Q U a (r .pattern)) e h in
     candidate-narrowest Q U E (k .0 .0) (k .0 .1 .0) s (r .pattern) (k .1)

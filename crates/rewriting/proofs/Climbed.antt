@@ -26,8 +26,14 @@ module _ {A : Shape} (v : ValidShape A) {s k : ℕ} (r : Climbed A s k) where
   climbed-up l =
       let h : s < A .tree .size = omega (arith, r .low, v .output) in
       let c : Child (A .tree) (A .tree .parent s) s = record { late = l; here = h; up = refl } in
-      let p : A .tree .parent s < s = parent-lt (shape-ordered v) s l h in
-      (p, record { from = from-trans (inr (child c)) (r .from); deep = omega (arith, r .deep, depth-child (shape-ordered v) (A .tree .parent s) s c); low = omega (arith, r .low) })
+      let p : A .tree .parent s < s = parent-lt (shape-ordered v) s l h in (
+        p,
+        record {
+          from = from-trans (inr (child c)) (r .from);
+          deep = omega (arith, r .deep, depth-child (shape-ordered v) (A .tree .parent s) s c);
+          low = omega (arith, r .low);
+        },
+      )
 
   -- at step 0 the whole main path is climbed
   pub climbed-all : s ≡ 0 → k ≡ depth (A .tree) (A .output)

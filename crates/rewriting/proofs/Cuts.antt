@@ -144,7 +144,8 @@ cut-valid {Q} {C} {c} v k h main = record {
         let m : suc (c + t) < Q .tree .size = omega (arith, cut-small o k (suc t) l h) in
         let w : From (Q .tree) (Q .tree .parent (suc (c + t))) (c + t) = o .order (c + t) m in
         let y : Q .tree .parent (suc (c + t)) ≡ c + C .tree .parent (suc t) = ap (Q .tree .parent) (sym z) ∙ e in
-        let f : From (Q .tree) c (c + C .tree .parent (suc t)) = ⊎-elim (λ g. absurd (omega arith)) (λ b. subst (From (Q .tree) c) e (below-up b .1)) (k .only (suc t) l) in
+        let f : From (Q .tree) c (c + C .tree .parent (suc t)) = ⊎-elim (λ g. absurd (omega arith)) (λ b. subst (From (Q .tree) c) e (below-up b .1))
+        (k .only (suc t) l) in
         let p : c + C .tree .parent (suc t) - c ≡ C .tree .parent (suc t) = omega arith in
         let q : c + t - c ≡ t = omega arith in
         ⊎-elim (λ g. inl (omega arith)) (λ b. inr (subst₂ (Below (C .tree)) p q (cut-below o k f (subst (λ (x : ℕ). Below (Q .tree) x (c + t)) y b)))) w

@@ -24,7 +24,8 @@ candidateOf Q U = patternOf (cutShape (shapeOf Q) (cutStep (shapeOf Q) (shapeOf 
 -- is there a candidate?
 unfoldable pub hasCandidate : Pattern → Pattern → Bool
 hasCandidate Q U =
-    ltb (length (mainPath (shapeOf U))) (suc (length (mainPath (shapeOf Q)))) && eqb (shapeOf U .label (shapeOf U .output)) (shapeOf Q .label (cutStep (shapeOf Q) (shapeOf U)))
+    ltb (length (mainPath (shapeOf U))) (suc (length (mainPath (shapeOf Q)))) && eqb (shapeOf U .label (shapeOf U .output))
+    (shapeOf Q .label (cutStep (shapeOf Q) (shapeOf U)))
 
 -- is its join with the view equal to the query?
 unfoldable pub joinEqual : Pattern → Pattern → Bool
@@ -36,14 +37,16 @@ rewritable Q U = hasCandidate Q U && joinEqual Q U
 module _ (Q U : Pattern) (vq : ValidPattern Q) (vu : ValidPattern U) (q : Q .count ≤ 32) (u : U .count ≤ 32) where
   tells-candidate : Tells (hasCandidate Q U) (Candidate Q U (candidateOf Q U))
   unfolding hasCandidate candidateOf
-  tells-candidate = tells-iff (tells-and (tells-lt (length (mainPath (shapeOf U))) (suc (length (mainPath (shapeOf Q))))) (tells-eq (shapeOf U .label (shapeOf U .output)) (shapeOf Q .label (cutStep (shapeOf Q) (shapeOf U)))))
+  tells-candidate = tells-iff (tells-and (tells-lt (length (mainPath (shapeOf U))) (suc (length (mainPath (shapeOf Q)))))
+      (tells-eq (shapeOf U .label (shapeOf U .output)) (shapeOf Q .label (cutStep (shapeOf Q) (shapeOf U)))))
       (λ p. candidate-exists Q U vq vu (omega (arith, p .0)) (p .1), λ k. (omega (arith, k .long), k .same))
 
   tells-equal : Joinable U (candidateOf Q U) → Tells (joinEqual Q U) (Equal (shapeOf (joinOf U (candidateOf Q U))) (shapeOf Q))
   unfolding joinEqual
   tells-equal w =
       let v : ValidPattern (joinOf U (candidateOf Q U)) = join-valid U (candidateOf Q U) w in
-      tells-iff (tells-and (tells-contained (shapeOf Q) (shapeOf (joinOf U (candidateOf Q U))) vq v) (tells-contained (shapeOf (joinOf U (candidateOf Q U))) (shapeOf Q) v vq))
+      tells-iff (tells-and (tells-contained (shapeOf Q) (shapeOf (joinOf U (candidateOf Q U))) vq v)
+      (tells-contained (shapeOf (joinOf U (candidateOf Q U))) (shapeOf Q) v vq))
       (λ p. record { to = p .0; back = p .1 }, λ e. (e .to, e .back))
 
   -- the test tells whether the candidate serves

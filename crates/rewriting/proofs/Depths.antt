@@ -1,5 +1,5 @@
--- What mappings do to depths: a step goes no higher than it stood, and between patterns that map into each other a main path step keeps its depth, its label and
--- its axis. Assumes nothing.
+-- What mappings do to depths: a step goes no higher than it stood, and between patterns that map into each other a main path step keeps its depth, its label
+-- and its axis. Assumes nothing.
 use Prim.Native.Nat.{ℕ, _+_, _≤_, _<_}
 use mathlib.Core.Path.{_≡_, refl, sym, ap, _∙_, subst}
 use mathlib.Core.Logic.{inl, inr, ⊎-elim}
@@ -30,31 +30,34 @@ module _ {B : Shape} (A : Shape) {m : ℕ → ℕ} (vb : Ordered (B .tree)) (va 
   deeper t l = omega (arith, depth-zero (B .tree), stretch 0 t (from-root vb t l))
 
 -- Two patterns that map into each other: a step above the output keeps its depth.
-module _ {Q J : Shape} {h g : ℕ → ℕ} (vq : Ordered (Q .tree)) (vj : Ordered (J .tree)) (lq : Q .output < Q .tree .size) (hm : Maps Q J h) (gm : Maps J Q g) where
-  pub keeps : (s : ℕ) → s < J .tree .size → From (J .tree) s (J .output) → depth (Q .tree) (g s) ≡ depth (J .tree) s
-  keeps s l w = omega (
-    arith,
-    deeper Q vj vq (gm .sends) s l,
-    stretch Q vj vq (gm .sends) s (J .output) w,
-    deeper J vq vj (hm .sends) (Q .output) lq,
-    ap (depth (J .tree)) (hm .output),
-    ap (depth (Q .tree)) (gm .output),
-  )
+module _ {Q J : Shape} {h g : ℕ → ℕ} (vq : Ordered (Q .tree)) (vj : Ordered (J .tree)) (lq : Q .output < Q .tree .size) (hm : Maps Q J h) (gm : Maps J Q g)
+  where
+    pub keeps : (s : ℕ) → s < J .tree .size → From (J .tree) s (J .output) → depth (Q .tree) (g s) ≡ depth (J .tree) s
+    keeps s l w = omega (
+      arith,
+      deeper Q vj vq (gm .sends) s l,
+      stretch Q vj vq (gm .sends) s (J .output) w,
+      deeper J vq vj (hm .sends) (Q .output) lq,
+      ap (depth (J .tree)) (hm .output),
+      ap (depth (Q .tree)) (gm .output),
+    )
 
-  -- it goes to the other's step of that depth, which has its label
-  pub meets : (s t : ℕ) → t < J .tree .size → From (J .tree) t (J .output) → From (Q .tree) s (Q .output) → depth (Q .tree) s ≡ depth (J .tree) t → g t ≡ s
-  meets s t l w x e =
-      depth-unique vq (g t) s (Q .output) (subst (From (Q .tree) (g t)) (gm .output) (from-sends Q vj vq (gm .sends) w)) x (keeps t l w ∙ sym e)
+    -- it goes to the other's step of that depth, which has its label
+    pub meets : (s t : ℕ) → t < J .tree .size → From (J .tree) t (J .output) → From (Q .tree) s (Q .output) → depth (Q .tree) s ≡ depth (J .tree) t → g t ≡ s
+    meets s t l w x e =
+        depth-unique vq (g t) s (Q .output) (subst (From (Q .tree) (g t)) (gm .output) (from-sends Q vj vq (gm .sends) w)) x (keeps t l w ∙ sym e)
 
-  pub same-labels : (s t : ℕ) → t < J .tree .size → From (J .tree) t (J .output) → From (Q .tree) s (Q .output) → depth (Q .tree) s ≡ depth (J .tree) t → Q .label s ≡ J .label t
-  same-labels s t l w x e = ap (Q .label) (sym (meets s t l w x e)) ∙ gm .sends .takes t l .fits .same
+    pub same-labels : (s t : ℕ) → t < J .tree .size → From (J .tree) t (J .output) → From (Q .tree) s (Q .output) → depth (Q .tree) s ≡ depth (J .tree) t → Q
+        .label s ≡ J .label t
+    same-labels s t l w x e = ap (Q .label) (sym (meets s t l w x e)) ∙ gm .sends .takes t l .fits .same
 
-  -- and has axis child where it has
-  pub child-there : (s t : ℕ) → t < J .tree .size → From (J .tree) t (J .output) → From (Q .tree) s (Q .output) → depth (Q .tree) s ≡ depth (J .tree) t
-      → J .axis t ≡ 0 → Q .axis s ≡ 0
-  child-there s t l w x e a =
-      let m : g t ≡ s = meets s t l w x e in
-      ap (Q .axis) (sym m) ∙ ⊎-elim
-      (λ z. let f = gm .first (ap (J .axis) (sym z) ∙ a) in ap (λ i. Q .axis (g i)) z ∙ ap (Q .axis) (f .0) ∙ f .1)
-      (λ p. subst (λ b. Goes (rowsOf Q) b (g (J .tree .parent t)) (g t)) a (gm .sends .edge t (J .tree .parent t) (record { late = p; here = l; up = refl })) .1)
-      (eq-zero-or-pos t)
+    -- and has axis child where it has
+    pub child-there : (s t : ℕ) → t < J .tree .size → From (J .tree) t (J .output) → From (Q .tree) s (Q .output) → depth (Q .tree) s ≡ depth (J .tree) t
+        → J .axis t ≡ 0 → Q .axis s ≡ 0
+    child-there s t l w x e a =
+        let m : g t ≡ s = meets s t l w x e in
+        ap (Q .axis) (sym m) ∙ ⊎-elim
+        (λ z. let f = gm .first (ap (J .axis) (sym z) ∙ a) in ap (λ i. Q .axis (g i)) z ∙ ap (Q .axis) (f .0) ∙ f .1)
+        (λ p. subst (λ b. Goes (rowsOf Q) b (g (J .tree .parent t)) (g t)) a (gm .sends .edge t (J .tree .parent t) (record { late = p; here = l; up = refl }))
+        .1)
+        (eq-zero-or-pos t)

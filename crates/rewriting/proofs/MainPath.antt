@@ -66,7 +66,8 @@ pub cut-on-path : {Q U : Shape} → ValidShape Q → ValidShape U → length (ma
     → From (Q .tree) (cutStep Q U) (Q .output) × (depth (Q .tree) (cutStep Q U) ≡ depth (U .tree) (U .output))
 unfolding mainPath cutStep
 cut-on-path {Q} {U} vq vu l =
-    let r = path-at-to (shape-ordered vq) (suc (Q .output)) (Q .output) (omega arith) (vq .output) (length (mainPath U) - 1) (omega (arith, main-length vq, main-length vu)) in
+    let r = path-at-to (shape-ordered vq) (suc (Q .output)) (Q .output) (omega arith) (vq .output) (length (mainPath U) - 1)
+    (omega (arith, main-length vq, main-length vu)) in
     (r .0, r .1 ∙ omega (arith, main-length vu))
 
 -- and it is the only such step

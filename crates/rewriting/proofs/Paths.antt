@@ -47,7 +47,14 @@ module _ {Q U : Shape} (vq : ValidShape Q) (vu : ValidShape U) {s t : ℕ} (l : 
 
   late : 0 < t → 0 < s
   late p = ⊎-elim
-      (λ z. absurd (omega (arith, l .deep, ap (depth (Q .tree)) z, depth-zero (Q .tree), depth-child (shape-ordered vu) (U .tree .parent t) t (up vu t p view-here))))
+      (λ z. absurd (omega (
+        arith,
+        l .deep,
+        ap (depth (Q .tree)) z,
+        depth-zero (Q .tree),
+        depth-child (shape-ordered vu) (U .tree .parent t) t
+            (up vu t p view-here),
+      )))
       (λ q. q)
       (eq-zero-or-pos s)
 
@@ -110,7 +117,8 @@ module _ (Q U E : Pattern) (vq : ValidPattern Q) (vu : ValidPattern U) (sv : Ser
   above =
       from-trans
       (subst (λ (x : ℕ). From (J .tree) t x) (renumber-low (shapeOf U .output) e (shapeOf U .output) (omega arith))
-      (subst (λ (x : ℕ). From (J .tree) x (renumber (shapeOf U .output) e (shapeOf U .output))) own (view-from jj (vu .output) t (shapeOf U .output) (l .view))))
+      (subst (λ (x : ℕ). From (J .tree) x (renumber (shapeOf U .output) e (shapeOf U .output))) own
+      (view-from jj (vu .output) t (shapeOf U .output) (l .view))))
       (joint jj (vu .output) (shape-ordered vu) (shape-ordered vj) (shape-ordered (pair .tail)) (pair .tail .output))
 
   deep : depth (shapeOf Q .tree) s ≡ depth (J .tree) t

@@ -27,7 +27,8 @@ module _ (Q U : Pattern) (vq : ValidPattern Q) (vu : ValidPattern U) where
   c : ℕ
   c = cutStep (shapeOf Q) (shapeOf U)
 
-  on-path : {E : Pattern} → Candidate Q U E → From (shapeOf Q .tree) c (shapeOf Q .output) × (depth (shapeOf Q .tree) c ≡ depth (shapeOf U .tree) (shapeOf U .output))
+  on-path : {E : Pattern} → Candidate Q U E → From (shapeOf Q .tree) c (shapeOf Q .output) ×
+      (depth (shapeOf Q .tree) c ≡ depth (shapeOf U .tree) (shapeOf U .output))
   unfolding c
   on-path k = cut-on-path vq vu (k .long)
 
@@ -61,7 +62,8 @@ module _ (Q U : Pattern) (vq : ValidPattern Q) (vu : ValidPattern U) where
       })
 
   -- where the query's main path is long enough and the labels agree, there is a candidate
-  pub candidate-exists : length (mainPath (shapeOf U)) ≤ length (mainPath (shapeOf Q)) → shapeOf U .label (shapeOf U .output) ≡ shapeOf Q .label (cutStep (shapeOf Q) (shapeOf U))
+  pub candidate-exists : length (mainPath (shapeOf U)) ≤ length (mainPath (shapeOf Q)) → shapeOf U .label (shapeOf U .output) ≡ shapeOf Q .label
+      (cutStep (shapeOf Q) (shapeOf U))
       → Candidate Q U (patternOf (cutShape (shapeOf Q) (cutStep (shapeOf Q) (shapeOf U))))
   candidate-exists l e =
       let m = cut-on-path vq vu l in
@@ -69,7 +71,8 @@ module _ (Q U : Pattern) (vq : ValidPattern Q) (vu : ValidPattern U) where
         long = l;
         same = e;
         shape = cutShape (shapeOf Q) (cutStep (shapeOf Q) (shapeOf U));
-        cut = cut-shape (shape-ordered vq) (cutStep (shapeOf Q) (shapeOf U)) (omega (arith, from-le (shape-ordered vq) (cutStep (shapeOf Q) (shapeOf U)) (shapeOf Q .output) (m .0), vq .output)) (m .0);
+        cut = cut-shape (shape-ordered vq) (cutStep (shapeOf Q) (shapeOf U))
+            (omega (arith, from-le (shape-ordered vq) (cutStep (shapeOf Q) (shapeOf U)) (shapeOf Q .output) (m .0), vq .output)) (m .0);
         table = refl;
       }
 
@@ -104,7 +107,8 @@ module _ (Q U E : Pattern) (vq : ValidPattern Q) (vu : ValidPattern U) (s : Serv
   cut-there : (k : ℕ) × From (shapeOf Q .tree) k (shapeOf Q .output) × (depth (shapeOf Q .tree) k ≡ depth (shapeOf U .tree) (shapeOf U .output))
   unfolding J
   cut-there =
-      reaches joined-pair (shape-ordered vq) (shape-ordered vu) (shape-ordered (pair .tail)) (shape-ordered (pair-valid pair)) (vq .output) (vu .output) (pair .tail .output)
+      reaches joined-pair (shape-ordered vq) (shape-ordered vu) (shape-ordered (pair .tail)) (shape-ordered (pair-valid pair)) (vq .output) (vu .output)
+      (pair .tail .output)
       (to-join .1) (to-query .1)
 
   long-enough : length (mainPath (shapeOf U)) ≤ length (mainPath (shapeOf Q))
@@ -160,9 +164,11 @@ module _ (Q U E : Pattern) (vq : ValidPattern Q) (vu : ValidPattern U) (s : Serv
         record {
           joinable = w;
           equal = record {
-            to = maps-sound (query-to-join joined-pair own (shape-ordered vq) (shape-ordered vu) (shape-ordered (pair .tail)) (shape-ordered (pair-valid pair)) (shape-ordered valid)
+            to = maps-sound (query-to-join joined-pair own (shape-ordered vq) (shape-ordered vu) (shape-ordered (pair .tail))
+                (shape-ordered (pair-valid pair)) (shape-ordered valid)
                 (vq .output) (vu .output) (pair .tail .output) (valid .output) (pair .same) (to-join .1) (to-query .1) (main .0) (main .1) (pair-joined p));
-            back = maps-sound (join-to-query joined-pair own (shape-ordered vq) (shape-ordered vu) (shape-ordered (pair .tail)) (shape-ordered (pair-valid pair)) (shape-ordered valid)
+            back = maps-sound (join-to-query joined-pair own (shape-ordered vq) (shape-ordered vu) (shape-ordered (pair .tail))
+                (shape-ordered (pair-valid pair)) (shape-ordered valid)
                 (vq .output) (vu .output) (pair .tail .output) (valid .output) (pair .same) (to-join .1) (to-query .1) (main .0) (main .1) (pair-joined p));
           };
         }
@@ -171,7 +177,11 @@ module _ (Q U E : Pattern) (vq : ValidPattern Q) (vu : ValidPattern U) (s : Serv
 pub rewriting-exact : (Q U : Pattern) → ValidPattern Q → ValidPattern U → Q .count ≤ 32 → U .count ≤ 32
     → ((E : Pattern) × Serves Q U E) ↔ ((C : Pattern) × Candidate Q U C × Serves Q U C)
 rewriting-exact Q U vq vu q u = (
-  λ w. let k = candidate-there Q U (w .0) vq vu (w .1) in
-      (patternOf (cutShape (shapeOf Q) (cutStep (shapeOf Q) (shapeOf U))), k, candidate-serves Q U (w .0) vq vu (w .1) (patternOf (cutShape (shapeOf Q) (cutStep (shapeOf Q) (shapeOf U)))) k q u),
+  λ w. let k = candidate-there Q U (w .0) vq vu (w .1) in (
+    patternOf (cutShape (shapeOf Q) (cutStep (shapeOf Q) (shapeOf U))),
+    k,
+    candidate-serves Q U (w .0) vq vu (w .1)
+        (patternOf (cutShape (shapeOf Q) (cutStep (shapeOf Q) (shapeOf U)))) k q u,
+  ),
   λ w. (w .0, w .2),
 )

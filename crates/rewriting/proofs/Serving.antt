@@ -26,13 +26,20 @@ module _ {U E J : Shape} {e : ℕ} (j : Joined U E J e) (lo : U .output < U .tre
   pub view-depth-to : (k s : ℕ) → s ≤ k → s < U .tree .size → depth (J .tree) (renumber (U .output) e s) ≡ depth (U .tree) s
   view-depth-to zero s m l =
       let z : s ≡ 0 = omega arith in
-      ap (λ x. depth (J .tree) (renumber (U .output) e x)) z ∙ ap (depth (J .tree)) (renumber-zero j lo) ∙ depth-zero (J .tree) ∙ sym (depth-zero (U .tree)) ∙ ap (depth (U .tree)) (sym z)
+      ap (λ x. depth (J .tree) (renumber (U .output) e x)) z ∙ ap (depth (J .tree)) (renumber-zero j lo) ∙ depth-zero (J .tree) ∙ sym (depth-zero (U .tree)) ∙
+      ap (depth (U .tree)) (sym z)
   view-depth-to (suc k) s m l = ⊎-elim
       (λ z. view-depth-to k s (omega arith) l)
       (λ p. let q : ℕ = U .tree .parent s in
       let c : Child (U .tree) q s = record { late = p; here = l; up = refl } in
       let g : q < s = below-lt vu (child c) in
-      omega (arith, depth-child vu q s c, depth-child vj (renumber (U .output) e q) (renumber (U .output) e s) (view-child j lo c), view-depth-to k q (omega arith) (omega arith)))
+      omega (
+        arith,
+        depth-child vu q s c,
+        depth-child vj (renumber (U .output) e q) (renumber (U .output) e s) (view-child j lo c),
+        view-depth-to k q
+            (omega arith) (omega arith),
+      ))
       (eq-zero-or-pos s)
 
   -- the joint is above the join's output
@@ -107,9 +114,13 @@ module _ {Q U E J C : Shape} {e c : ℕ} {h g : ℕ → ℕ}
         let z : g (renumber (U .output) e (U .output)) ≡ c + 0 = ap g (low e) ∙ meets ∙ omega arith in
         record {
           sends = glue jk lu same-label (rowsOf Q) vc (split-view jj lu same (rowsOf Q) (gm .sends)) (cut-into vq cut here) z;
-          first = λ a. let s = gm .first (axis-j ∙ sym axis-k ∙ a) in
-              (both-view (U .output) k (λ s. g (renumber (U .output) e s)) (λ t. c + t) 0 0 (sym (renumber-zero jk lu)) ∙ ap g (renumber-zero jj lu) ∙ s .0, s .1);
-          output = ap kq (jk .output) ∙ both-tail (U .output) k (λ s. g (renumber (U .output) e s)) (λ t. c + t) z (C .output) (omega (arith, jk .more)) ∙ sym (cut .output);
+          first = λ a. let s = gm .first (axis-j ∙ sym axis-k ∙ a) in (
+            both-view (U .output) k (λ s. g (renumber (U .output) e s)) (λ t. c + t) 0 0 (sym (renumber-zero jk lu)) ∙ ap g (renumber-zero jj lu) ∙ s .0,
+            s
+                .1,
+          );
+          output = ap kq (jk .output) ∙ both-tail (U .output) k (λ s. g (renumber (U .output) e s)) (λ t. c + t) z (C .output) (omega (arith, jk .more)) ∙ sym
+              (cut .output);
         }
 
     tail-jk : ℕ → ℕ
@@ -128,8 +139,13 @@ module _ {Q U E J C : Shape} {e c : ℕ} {h g : ℕ → ℕ}
         record {
           sends = glue jj lu same (rowsOf K) ve (split-view jk lu same-label (rowsOf K) (identity K))
               (compose (cut-back vq cut here ve (split-tail jj lu same (rowsOf Q) (gm .sends)) y) (split-tail jk lu same-label (rowsOf K) (identity K))) z;
-          first = λ a. (both-view (U .output) e (renumber (U .output) k) tail-jk 0 0 (sym (renumber-zero jj lu)) ∙ renumber-zero jk lu, axis-k ∙ sym axis-j ∙ a);
-          output = ap jk-map (jj .output) ∙ both-tail (U .output) e (renumber (U .output) k) tail-jk z (E .output) (omega (arith, jj .more)) ∙ omega (arith, n, cut .output, jk .output);
+          first = λ a. (
+            both-view (U .output) e (renumber (U .output) k) tail-jk 0 0 (sym (renumber-zero jj lu)) ∙ renumber-zero jk lu,
+            axis-k ∙ sym axis-j ∙
+                a,
+          );
+          output = ap jk-map (jj .output) ∙ both-tail (U .output) e (renumber (U .output) k) tail-jk z (E .output) (omega (arith, jj .more)) ∙ omega
+              (arith, n, cut .output, jk .output);
         }
 
     -- and the query into it

@@ -30,7 +30,12 @@ module _ {T : Tree} (v : Ordered T) {c u : ℕ} (r : Taken T c u) where
       let d : Child T (T .parent u) u = record { late = omega (arith, r .past); here = l; up = refl } in
       let p : T .parent u < u = parent-lt v u (d .late) l in
       let w : From T c u = inr (from-child (r .each (T .parent u) h p) d) in
-      record { past = omega (arith, r .past); here = omega arith; each = λ x k m. below-or-at {u = x} {k = u} (omega arith) (r .each x k) (λ e. subst (From T c) {x = u} (omega arith) w) }
+      record {
+        past = omega (arith, r .past);
+        here = omega arith;
+        each = λ x k m. below-or-at {u = x} {k = u} (omega arith) (r .each x k)
+            (λ e. subst (From T c) {x = u} (omega arith) w);
+      }
 
   -- where no row from u on is, the run is whole
   whole : ((x : ℕ) → From T c x → x < u) → Whole T c (u - c)
@@ -45,7 +50,8 @@ module _ {T : Tree} (v : Ordered T) {c u : ℕ} (r : Taken T c u) where
   taken-stop h = whole (λ x w. go x w (decLt x u))
     where
       no-later : (x : ℕ) → From T c x → u ≤ x → ⊥
-      no-later x w l = ⊎-elim (λ e. omega (arith, r .past)) (λ b. omega (arith, from-le v c (T .parent u) (below-up b .1))) (run v c x u w (omega (arith, r .past)) l)
+      no-later x w l = ⊎-elim (λ e. omega (arith, r .past)) (λ b. omega (arith, from-le v c (T .parent u) (below-up b .1)))
+          (run v c x u w (omega (arith, r .past)) l)
 
       go : (x : ℕ) → From T c x → Dec (x < u) → x < u
       go x w (yes l) = l

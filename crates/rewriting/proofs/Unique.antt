@@ -17,7 +17,11 @@ answers-unique Q U rewriting.Nothing rewriting.Nothing p q h k = (refl, h .2 ∙
 answers-unique Q U rewriting.Nothing (rewriting.Refused s) p q h k = absurd (refuses-not-passes (rewritingChecks Q U) s (k .0) (h .0))
 answers-unique Q U (rewriting.Refused r) rewriting.Handed p q h k = absurd (refuses-not-passes (rewritingChecks Q U) r (h .0) (k .0))
 answers-unique Q U (rewriting.Refused r) rewriting.Nothing p q h k = absurd (refuses-not-passes (rewritingChecks Q U) r (h .0) (k .0))
-answers-unique Q U (rewriting.Refused r) (rewriting.Refused s) p q h k = (ap rewriting.Refused (refuses-unique (rewritingChecks Q U) r s (h .0) (k .0)), h .1 ∙ sym (k .1))
+answers-unique Q U (rewriting.Refused r) (rewriting.Refused s) p q h k = (
+  ap rewriting.Refused (refuses-unique (rewritingChecks Q U) r s (h .0) (k .0)),
+  h .1
+      ∙ sym (k .1),
+)
 
 -- two answers to one call are one
 pub rewrites-unique : (Q U : Pattern) (r q : RewritingAnswer) → Rewrites Q U r → Rewrites Q U q → r ≡ q

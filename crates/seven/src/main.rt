@@ -1,5 +1,5 @@
-// Runs the cases of flight line seven (docs/RULES.md, "Flight line seven") that the calls cover, and prints what they find. What it prints is compared with the file
-// `stdout`.
+// Runs the cases of flight line seven (docs/RULES.md, "Flight line seven") that the calls cover, and prints what they find. What it prints is compared with the
+// file `stdout`.
 ghost use Prim.Native.Nat.{ℕ, _+_, _*_, _≤_, _<_};
 ghost use lib.ListN.{length};
 use containment::Containment;

@@ -44,6 +44,7 @@ counted-known g ds (Refused r) Z Y x h = (⊎-elim (λ w. absurd (w .0 x)) (λ w
 
 -- a call's answer by a check in other words, with another result
 pub counted-other : {X X′ : Type 0} (g : ℕ) (a : Counted) (Z Z′ : ℕ → Type 0) (Y : Type 0)
-    → (X → X′) → (X′ → X) → ((c : ℕ) → Z c → Z′ c) → CountedBy (record { asks = X; gives = g } ∷ []) a Z Y → CountedBy (record { asks = X′; gives = g } ∷ []) a Z′ Y
+    → (X → X′) → (X′ → X) → ((c : ℕ) → Z c → Z′ c) → CountedBy (record { asks = X; gives = g } ∷ []) a Z Y → CountedBy (record { asks = X′; gives = g } ∷ [])
+    a Z′ Y
 counted-other g (Count c) Z Z′ Y f b z h = ((f (h .0 .0), tt), z c (h .1))
 counted-other g (Refused r) Z Z′ Y f b z h = (⊎-elim (λ w. inl (λ x. w .0 (b x), w .1)) (λ w. absurd (w .1)) (h .0), h .1)

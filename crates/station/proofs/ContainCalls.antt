@@ -45,7 +45,8 @@ told : (room₀ : List ℕ) {d e : Document} {x y m n : ℕ} → d ≡ e → x �
 told room₀ e f g = λ i. documentPacket (e i) ++ (high (f i) ∷ low (f i) ∷ []) ++ drop (4 * g i + 3 + 2) room₀
 
 -- a packet that is refused
-pub contains-unread : (xs ys room₀ room : List ℕ) (p q : Pattern) (r : Refusal) → ReadsTwo xs ys (checked.Refused r) p q → room ≡ room₀ → ContainsPackets xs ys room₀ (counted.Refused r) room
+pub contains-unread : (xs ys room₀ room : List ℕ) (p q : Pattern) (r : Refusal) → ReadsTwo xs ys (checked.Refused r) p q → room ≡ room₀ → ContainsPackets xs
+    ys room₀ (counted.Refused r) room
 contains-unread xs ys room₀ room p q r t k =
     record { says = (refuses-front (patternChecks xs ++ patternChecks ys) (lastChecks (packetPattern xs) (packetPattern ys) (length room₀)) r (t .says .0), k) }
 
@@ -61,7 +62,8 @@ module _ (xs ys parents labels : List ℕ) (p q : Pattern) (f : ContainmentAnswe
   second-valid = packet-valid ys (passes-rest (patternChecks xs) (patternChecks ys) (t .says .0))
 
   -- the call in terms of the packets
-  here : (a : Containment) → f .answer ≡ a → AnswersContainment (packetPattern xs) (packetPattern ys) (replicate 128 0) (replicate 128 0) a (f .mapping) parents labels
+  here : (a : Containment) → f .answer ≡ a → AnswersContainment (packetPattern xs) (packetPattern ys) (replicate 128 0) (replicate 128 0) a (f .mapping)
+      parents labels
   here a e = subst (λ x. AnswersContainment (packetPattern xs) (packetPattern ys) (replicate 128 0) (replicate 128 0) x (f .mapping) parents labels) e
       (subst₂ (λ x y. DecidesContainment x y (replicate 128 0) (replicate 128 0) f parents labels) (t .says .1 .0) (t .says .1 .1) h)
 
@@ -70,20 +72,24 @@ module _ (xs ys parents labels : List ℕ) (p q : Pattern) (f : ContainmentAnswe
   refused room₀ room r w k = record { says = (refuses-rest front (lastChecks (packetPattern xs) (packetPattern ys) (length room₀)) r (t .says .0) w, k) }
 
   -- the call refuses for the label alone
-  pub contains-refused : (room₀ room : List ℕ) (r : Refusal) → f .answer ≡ containment.Refused r → room ≡ room₀ → ContainsPackets xs ys room₀ (counted.Refused r) room
+  pub contains-refused : (room₀ room : List ℕ) (r : Refusal) → f .answer ≡ containment.Refused r → room ≡ room₀ → ContainsPackets xs ys room₀
+      (counted.Refused r) room
   contains-refused room₀ room r e k =
       let w = here (containment.Refused r) e .0 in
       let m = witness-few first-valid in
       refused room₀ room r
       (⊎-elim (λ w. absurd (w .0 first-valid)) (λ w. ⊎-elim (λ w. absurd (w .0 second-valid)) (λ w. ⊎-elim inl
-      (λ w. absurd (⊎-elim (λ z. z .0 (omega (arith, m, length-replicate {A = ℕ} 128 0), omega (arith, m, length-replicate {A = ℕ} 128 0))) (λ z. z .1) (w .1))) (w .1)) (w .1)) w)
+      (λ w. absurd (⊎-elim (λ z. z .0 (omega (arith, m, length-replicate {A = ℕ} 128 0), omega (arith, m, length-replicate {A = ℕ} 128 0))) (λ z. z .1)
+      (w .1))) (w .1)) (w .1)) w)
       k
 
   -- a room that is too short
-  pub within-room : (room₀ room : List ℕ) → f .answer ≡ containment.Contained → length room₀ < 517 → room ≡ room₀ → ContainsPackets xs ys room₀ (counted.Refused Room) room
+  pub within-room : (room₀ room : List ℕ) → f .answer ≡ containment.Contained → length room₀ < 517 → room ≡ room₀ → ContainsPackets xs ys room₀
+      (counted.Refused Room) room
   within-room room₀ room e l k = refused room₀ room Room (inr (here containment.Contained e .0 .1 .1 .0, inl (λ z. omega arith, refl))) k
 
-  pub within-told : (room₀ room : List ℕ) → f .answer ≡ containment.Contained → 517 ≤ length room₀ → room ≡ column (λ k. getD (f .mapping) k (stepNo 0) .0) 64 ++ drop 64 room₀
+  pub within-told : (room₀ room : List ℕ) → f .answer ≡ containment.Contained → 517 ≤ length room₀ → room ≡ column (λ k. getD (f .mapping) k (stepNo 0) .0) 64
+      ++ drop 64 room₀
       → ContainsPackets xs ys room₀ (counted.Count 1) room
   within-told room₀ room e l k =
       let w = here containment.Contained e in
@@ -119,7 +125,8 @@ module _ (xs ys parents labels : List ℕ) (p q : Pattern) (f : ContainmentAnswe
         (ap (take m) (w .label-list) ∙ take-at (witnessOf (shapeOf (packetPattern xs)) (w .label) .labels) _ m (s .1 ∙ sym (w .count)))
 
     pub apart-told : (room₀ room : List ℕ) → 517 ≤ length room₀
-        → room ≡ documentPacket (record { parents = take m parents; labels = take m labels }) ++ (high (node .0) ∷ low (node .0) ∷ []) ++ drop (4 * length (take m parents) + 3 + 2) room₀
+        → room ≡ documentPacket (record { parents = take m parents; labels = take m labels }) ++ (high (node .0) ∷ low (node .0) ∷ []) ++ drop
+        (4 * length (take m parents) + 3 + 2) room₀
         → ContainsPackets xs ys room₀ (counted.Count 0) room
     apart-told room₀ room l k =
         let w = apart .1 in

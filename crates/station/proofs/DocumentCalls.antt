@@ -34,7 +34,8 @@ module _ {ds ps parents₀ labels₀ parents labels : List ℕ} {n : ℕ} {p : P
   unfolding halfBytes
   answered First list₀ work₀ list work room₀ room c f e =
       let same : blocks (halfBytes list) c ≡ blocks (halfBytes (f .answers)) c = blocks-ext (halfBytes list) (halfBytes (f .answers)) c
-      (λ k l. ap (λ x. x / 256 ∷ x % 256 ∷ []) (ap (λ xs. getD xs k 0) (f .written) ∙ List·getD-append (f .answers) (drop c list₀) 0 k (omega (arith, f .count)))) in
+      (λ k l. ap (λ x. x / 256 ∷ x % 256 ∷ []) (ap (λ xs. getD xs k 0) (f .written) ∙ List·getD-append (f .answers) (drop c list₀) 0 k
+      (omega (arith, f .count)))) in
       record {
         answers = f .answers;
         lists = f .lists;
@@ -42,9 +43,16 @@ module _ {ds ps parents₀ labels₀ parents labels : List ℕ} {n : ℕ} {p : P
         written = e ∙ ap (λ xs. xs ++ drop (2 * c) room₀) (same ∙ ap (blocks (halfBytes (f .answers))) (f .count));
       }
 
-  pub found-small : (First : ℕ → Type 0) (list₀ work₀ list work : List ℕ) (c : ℕ) → Found (shapeOf (packetPattern ps)) (packetDocument ds) First list₀ work₀ c list work → c ≤ n
+  pub found-small : (First : ℕ → Type 0) (list₀ work₀ list work : List ℕ) (c : ℕ) → Found (shapeOf (packetPattern ps)) (packetDocument ds) First list₀ work₀ c
+      list work → c ≤ n
   found-small First list₀ work₀ list work c f =
-      omega (arith, asked-nodes t, f .count, answers-few First (shapeOf (packetPattern ps)) (packetDocument ds) (f .answers) (pattern-valid t .output) (f .lists))
+      omega (
+        arith,
+        asked-nodes t,
+        f .count,
+        answers-few First (shapeOf (packetPattern ps)) (packetDocument ds) (f .answers) (pattern-valid t .output)
+            (f .lists),
+      )
 
   module _ (list work : List ℕ) where
     abbrev list₀ : List ℕ
@@ -54,7 +62,11 @@ module _ {ds ps parents₀ labels₀ parents labels : List ℕ} {n : ℕ} {p : P
     work₀ = replicate 4096 0
 
     has-room : HasRoom (packetDocument ds) (length list₀) (length work₀)
-    has-room = (omega (arith, asked-few t, asked-nodes t, length-replicate {A = ℕ} 2048 0), omega (arith, asked-few t, asked-nodes t, length-replicate {A = ℕ} 4096 0))
+    has-room = (
+      omega (arith, asked-few t, asked-nodes t, length-replicate {A = ℕ} 2048 0),
+      omega
+          (arith, asked-few t, asked-nodes t, length-replicate {A = ℕ} 4096 0),
+    )
 
     -- the call in terms of the packets
     here : (a : Counted) → FindsAnswers p (record { parents = take n parents; labels = take n labels }) list₀ work₀ a list work
@@ -99,7 +111,8 @@ module _ {ds ps parents₀ labels₀ parents labels : List ℕ} {n : ℕ} {p : P
         answers-packed room₀ room m k =
             record {
               says = (
-                passes-both (documentRules ds ++ patternChecks ps) (roomCheck ds (length room₀)) (asked-passes t (there .0 .1 .0)) (omega (arith, t .count), tt),
+                passes-both (documentRules ds ++ patternChecks ps) (roomCheck ds (length room₀)) (asked-passes t (there .0 .1 .0))
+                    (omega (arith, t .count), tt),
                 answered (Begins (shapeOf (packetPattern ps))) list₀ work₀ list work room₀ room c (there .1) k,
               );
             }
@@ -112,7 +125,19 @@ answers-unread {ds = ds} {ps = ps} t room₀ room r e k =
 
 pub answers-small : (ds ps room₀ room : List ℕ) (a : Counted) → AnswersPackets ds ps room₀ a room → Small a
 answers-small ds ps room₀ room (counted.Count c) h =
-    let v = packet-valid ps (h .says .0 .1 .1 .1 .1 .0, (h .says .0 .1 .1 .1 .1 .1 .0, (h .says .0 .1 .1 .1 .1 .1 .1 .0, (h .says .0 .1 .1 .1 .1 .1 .1 .1 .0, tt)))) in
+    let v = packet-valid ps (
+      h .says .0 .1 .1 .1 .1 .0,
+      (
+        h .says .0 .1 .1 .1 .1 .1 .0,
+        (h .says .0 .1 .1 .1 .1 .1 .1 .0, (h .says .0 .1 .1 .1 .1 .1 .1 .1 .0, tt)),
+      ),
+    ) in
     let f = h .says .1 in
-    omega (arith, h .says .0 .1 .1 .1 .0 .few, f .count, answers-few (Begins (shapeOf (packetPattern ps))) (shapeOf (packetPattern ps)) (packetDocument ds) (f .answers) (v .output) (f .lists))
+    omega (
+      arith,
+      h .says .0 .1 .1 .1 .0 .few,
+      f .count,
+      answers-few (Begins (shapeOf (packetPattern ps))) (shapeOf (packetPattern ps)) (packetDocument ds)
+          (f .answers) (v .output) (f .lists),
+    )
 answers-small ds ps room₀ room (counted.Refused r) h = tt

@@ -36,19 +36,22 @@ ascending-few xs n h b = go (length xs) refl
     go (suc m) e = omega (arith, e, ascending-least xs h m (omega (arith, e)), b m (omega (arith, e)))
 
 -- there are at most as many answers as nodes
-pub answers-few : (First : ℕ → Type 0) (A : Shape) (d : Document) (xs : List ℕ) → A .output < A .tree .size → Lists (Started First A d) xs → length xs ≤ nodeCount d
+pub answers-few : (First : ℕ → Type 0) (A : Shape) (d : Document) (xs : List ℕ) → A .output < A .tree .size → Lists (Started First A d) xs → length xs ≤
+    nodeCount d
 answers-few First A d xs o l =
     ascending-few xs (nodeCount d) (l .ascending)
     (λ k h. let r = l .sound (getD xs k 0) (record { place = k; early = h; is = refl }) in omega (arith, r .at, r .sends .takes (A .output) o .here))
 
-found-few : (First : ℕ → Type 0) (A : Shape) (d : Document) (list₀ work₀ list work : List ℕ) (c : ℕ) → A .output < A .tree .size → Found A d First list₀ work₀ c list work → c ≤ nodeCount d
+found-few : (First : ℕ → Type 0) (A : Shape) (d : Document) (list₀ work₀ list work : List ℕ) (c : ℕ) → A .output < A .tree .size → Found A d First list₀ work₀
+    c list work → c ≤ nodeCount d
 found-few First A d list₀ work₀ list work c o f = omega (arith, f .count, answers-few First A d (f .answers) o (f .lists))
 
 module _ (d : Document) (ps list₀ work₀ list work : List ℕ) where
   pub list-unread : (r : Refusal) → Refuses (patternChecks ps) r → list ≡ list₀ → work ≡ work₀ → ListAnswers d ps list₀ work₀ (counted.Refused r) list work
   list-unread r h e f = record { says = (refuses-front (patternChecks ps) (answerChecks (packetPattern ps) d (length list₀) (length work₀)) r h, (e, f)) }
 
-  pub list-read : (p : Pattern) (a : Counted) → Decided (patternChecks ps) checked.Right (p ≡ packetPattern ps) (p ≡ zeroPattern) → FindsAnswers p d list₀ work₀ a list work → ListAnswers d ps list₀ work₀ a list work
+  pub list-read : (p : Pattern) (a : Counted) → Decided (patternChecks ps) checked.Right (p ≡ packetPattern ps) (p ≡ zeroPattern) → FindsAnswers p d list₀
+      work₀ a list work → ListAnswers d ps list₀ work₀ a list work
   list-read p a h f =
       record {
         says =
@@ -65,10 +68,17 @@ module _ (d : Document) (ps list₀ work₀ list work : List ℕ) where
   list-small (counted.Refused r) h = tt
 
   module _ (starts : List ℕ) where
-    pub started-unread : (r : Refusal) → Refuses (patternChecks ps) r → list ≡ list₀ → work ≡ work₀ → ListStarted d ps starts list₀ work₀ (counted.Refused r) list work
-    started-unread r h e f = record { says = (refuses-front (patternChecks ps) (startedChecks (packetPattern ps) d starts (length list₀) (length work₀)) r h, (e, f)) }
+    pub started-unread : (r : Refusal) → Refuses (patternChecks ps) r → list ≡ list₀ → work ≡ work₀ → ListStarted d ps starts list₀ work₀ (counted.Refused r)
+        list work
+    started-unread r h e f = record {
+      says = (
+        refuses-front (patternChecks ps) (startedChecks (packetPattern ps) d starts (length list₀) (length work₀)) r h,
+        (e, f),
+      );
+    }
 
-    pub started-read : (p : Pattern) (a : Counted) → Decided (patternChecks ps) checked.Right (p ≡ packetPattern ps) (p ≡ zeroPattern) → FindsStarted p d starts list₀ work₀ a list work
+    pub started-read : (p : Pattern) (a : Counted) → Decided (patternChecks ps) checked.Right (p ≡ packetPattern ps) (p ≡ zeroPattern) → FindsStarted p d
+        starts list₀ work₀ a list work
         → ListStarted d ps starts list₀ work₀ a list work
     started-read p a h f =
         record {

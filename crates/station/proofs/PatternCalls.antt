@@ -28,11 +28,25 @@ use Rattle.rewriting.specs.declared.Rewriting.the-variants as rewriting
 use Rattle.rewriting.specs.declared.RewritingAnswer.{RewritingAnswer}
 use Rattle.rewriting.proofs.Rewritten.{candidate-unique}
 use Rattle.station.specs.Code.{Small}
-use Rattle.station.specs.Patterns.{packetPattern, lengthOf, Put, bothOf, ReadsTwo, joinsChecks, JoinsPackets, ServesBy, rewritesChecks, Rewritten, RewritesPackets, CopiesPacket}
+use Rattle.station.specs.Patterns.{
+  packetPattern,
+  lengthOf,
+  Put,
+  bothOf,
+  ReadsTwo,
+  joinsChecks,
+  JoinsPackets,
+  ServesBy,
+  rewritesChecks,
+  Rewritten,
+  RewritesPackets,
+  CopiesPacket,
+}
 use Rattle.station.proofs.Checking.{refuses-front, refuses-rest, passes-both, passes-rest, counted-rest, counted-known, counted-other}
 
 -- two packets, each read by itself
-pub read-two : (us bs : List ℕ) (x y : PatternRead) → ReadsPattern us x → ReadsPattern bs y → ReadsTwo us bs (bothOf (x .answer) (y .answer)) (x .pattern) (y .pattern)
+pub read-two : (us bs : List ℕ) (x y : PatternRead) → ReadsPattern us x → ReadsPattern bs y → ReadsTwo us bs (bothOf (x .answer) (y .answer)) (x .pattern)
+    (y .pattern)
 read-two us bs x y h k = go (x .answer) (y .answer) h k
   where
     go : (a b : Checked)
@@ -58,7 +72,13 @@ module _ (us es room₀ room : List ℕ) where
 
   -- a packet that is refused
   pub joins-unread : (p q : Pattern) (r : Refusal) → ReadsTwo us es (checked.Refused r) p q → room ≡ room₀ → JoinsPackets us es room₀ (counted.Refused r) room
-  joins-unread p q r t k = record { says = (refuses-front front (joinChecks (packetPattern us) (packetPattern es) ++ (record { asks = lengthOf (joinOf (packetPattern us) (packetPattern es)) ≤ length room₀; gives = 5 } ∷ [])) r (t .says .0), k) }
+  joins-unread p q r t k = record {
+    says = (
+      refuses-front front (joinChecks (packetPattern us) (packetPattern es) ++
+          (record { asks = lengthOf (joinOf (packetPattern us) (packetPattern es)) ≤ length room₀; gives = 5 } ∷ [])) r (t .says .0),
+      k,
+    );
+  }
 
   module _ (p q : Pattern) (j : JoinAnswer) (t : ReadsTwo us es checked.Right p q) (h : Joins p q j) where
     -- the join of the packets' patterns
@@ -94,12 +114,14 @@ module _ (qs us room₀ room : List ℕ) where
   abbrev last : List Check
   last = record { asks = (E : Pattern) → ServesBy (packetPattern qs) (packetPattern us) E → lengthOf E ≤ length room₀; gives = 5 } ∷ []
 
-  pub rewrites-unread : (p q : Pattern) (r : Refusal) → ReadsTwo qs us (checked.Refused r) p q → room ≡ room₀ → RewritesPackets qs us room₀ (counted.Refused r) room
+  pub rewrites-unread : (p q : Pattern) (r : Refusal) → ReadsTwo qs us (checked.Refused r) p q → room ≡ room₀ → RewritesPackets qs us room₀
+      (counted.Refused r) room
   rewrites-unread p q r t k = record { says = (refuses-front front2 (rewritingChecks (packetPattern qs) (packetPattern us) ++ last) r (t .says .0), k) }
 
   module _ (p q : Pattern) (w : RewritingAnswer) (t : ReadsTwo qs us checked.Right p q) (h : Rewrites p q w) where
     there : (a : Rewriting) → w .answer ≡ a → AnswersRewriting (packetPattern qs) (packetPattern us) a (w .pattern)
-    there a e = subst (λ x. AnswersRewriting (packetPattern qs) (packetPattern us) x (w .pattern)) e (subst₂ (λ x y. Rewrites x y w) (t .says .1 .0) (t .says .1 .1) h)
+    there a e = subst (λ x. AnswersRewriting (packetPattern qs) (packetPattern us) x (w .pattern)) e
+        (subst₂ (λ x y. Rewrites x y w) (t .says .1 .0) (t .says .1 .1) h)
 
     pub rewrite-refused : (r : Refusal) → w .answer ≡ rewriting.Refused r → room ≡ room₀ → RewritesPackets qs us room₀ (counted.Refused r) room
     rewrite-refused r e k =
@@ -132,7 +154,8 @@ module _ (qs us room₀ room : List ℕ) where
               (writes (w .pattern) room₀ room a v x)));
         }
       where
-        handed : ServesBy (packetPattern qs) (packetPattern us) (w .pattern) → (c : ℕ) → Put (w .pattern) room₀ c room → Rewritten (packetPattern qs) (packetPattern us) room₀ c room
+        handed : ServesBy (packetPattern qs) (packetPattern us) (w .pattern) → (c : ℕ) → Put (w .pattern) room₀ c room → Rewritten (packetPattern qs)
+            (packetPattern us) room₀ c room
         handed s zero z = absurd (omega (arith, z .0))
         handed s (suc c) z = (w .pattern, s, z)
 
@@ -140,7 +163,8 @@ pub copy-refused : (bs room₀ room : List ℕ) (r : Refusal) → Refuses (patte
 copy-refused bs room₀ room r h k = record { says = (refuses-front (patternChecks bs) (record { asks = length bs ≤ length room₀; gives = 5 } ∷ []) r h, k) }
 
 -- the same bytes, where the packet is read and the pattern is written
-module _ (bs room₀ room : List ℕ) (x : PatternRead) (b : Bytes bs) (h : Decided (patternChecks bs) checked.Right (x .pattern ≡ packetPattern bs) (x .pattern ≡ zeroPattern)) where
+module _ (bs room₀ room : List ℕ) (x : PatternRead) (b : Bytes bs) (h : Decided (patternChecks bs) checked.Right (x .pattern ≡ packetPattern bs)
+    (x .pattern ≡ zeroPattern)) where
   pub copied : (a : Counted) → WritesPattern (x .pattern) room₀ a room → CopiesPacket bs room₀ a room
   copied a w =
       let p = packetPattern bs in

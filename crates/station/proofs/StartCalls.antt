@@ -48,14 +48,16 @@ module _ {ds ps parents₀ labels₀ parents labels : List ℕ} {n : ℕ} {p : P
       let rest : List Check = startCheck ds ps ss ++ roomCheck ds (length room₀) in
       record {
         says = (
-          after-rules ds (patternChecks ps ++ rest) Start q (t .header) (refuses-rest (patternChecks ps) rest Start (t .checked) (inl (λ z. o (z .1, z .2), refl)))
+          after-rules ds (patternChecks ps ++ rest) Start q (t .header)
+              (refuses-rest (patternChecks ps) rest Start (t .checked) (inl (λ z. o (z .1, z .2), refl)))
               (subst (λ d. AfterRules d Start q) (asked-document t) w),
           k,
         );
       }
 
   -- an odd number of bytes
-  pub starts-odd : (room₀ room : List ℕ) (q : Refusal) → (length ss % 2 ≡ 0 → ⊥) → AfterRules (record { parents = take n parents; labels = take n labels }) Start q
+  pub starts-odd : (room₀ room : List ℕ) (q : Refusal) → (length ss % 2 ≡ 0 → ⊥) → AfterRules (record { parents = take n parents; labels = take n labels })
+      Start q
       → room ≡ room₀ → StartsPackets ds ps ss room₀ (counted.Refused q) room
   starts-odd room₀ room q o = unstarted room₀ room q (λ z. o (z .0))
 
@@ -72,7 +74,8 @@ module _ {ds ps parents₀ labels₀ parents labels : List ℕ} {n : ℕ} {p : P
         ascending-few (column f (length ss / 2)) (nodeCount (packetDocument ds)) (z .1 .ascending) (z .1 .nodes),
       ))
 
-  module _ (from list work : List ℕ) (g : from ≡ column (λ i. half ss (2 * i)) (length ss / 2) ++ drop (length ss / 2) (replicate 2048 0)) (even : length ss % 2 ≡ 0) where
+  module _ (from list work : List ℕ) (g : from ≡ column (λ i. half ss (2 * i)) (length ss / 2) ++ drop (length ss / 2) (replicate 2048 0))
+      (even : length ss % 2 ≡ 0) where
     abbrev list₀ : List ℕ
     list₀ = replicate 2048 0
 
@@ -88,12 +91,14 @@ module _ {ds ps parents₀ labels₀ parents labels : List ℕ} {n : ℕ} {p : P
     has-room =
         (omega (arith, asked-few t, asked-nodes t, length-replicate {A = ℕ} 2048 0), omega (arith, asked-few t, asked-nodes t, length-replicate {A = ℕ} 4096 0))
 
-    module _ (a : Counted) (h : FindsStarted p (record { parents = take n parents; labels = take n labels }) (take (length ss / 2) from) list₀ work₀ a list work) where
+    module _ (a : Counted) (h : FindsStarted p (record { parents = take n parents; labels = take n labels }) (take (length ss / 2) from) list₀ work₀ a list
+        work) where
       -- the call in terms of the packets
       here : FindsStarted (packetPattern ps) (packetDocument ds) (unpacked ss) list₀ work₀ a list work
       here = subst (λ xs. FindsStarted (packetPattern ps) (packetDocument ds) xs list₀ work₀ a list work) starts-are
           (subst (λ d. FindsStarted (packetPattern ps) d (take (length ss / 2) from) list₀ work₀ a list work) (asked-document t)
-          (subst (λ q. FindsStarted q (record { parents = take n parents; labels = take n labels }) (take (length ss / 2) from) list₀ work₀ a list work) (t .pattern-read) h))
+          (subst (λ q. FindsStarted q (record { parents = take n parents; labels = take n labels }) (take (length ss / 2) from) list₀ work₀ a list work)
+          (t .pattern-read) h))
 
       -- it refuses for the document's rules or the start
       pub starts-refused : (room₀ room : List ℕ) (r : Refusal) → a ≡ counted.Refused r → room ≡ room₀ → StartsPackets ds ps ss room₀ (counted.Refused r) room
@@ -135,14 +140,27 @@ module _ {ds ps parents₀ labels₀ parents labels : List ℕ} {n : ℕ} {p : P
             let s = there .0 .1 .1 .0 in
             record {
               says = (
-                passes-both front (startCheck ds ps ss ++ roomCheck ds (length room₀)) (asked-passes t (there .0 .1 .0)) ((s .0, even, s .1), (omega (arith, t .count), tt)),
+                passes-both front (startCheck ds ps ss ++ roomCheck ds (length room₀)) (asked-passes t (there .0 .1 .0))
+                    ((s .0, even, s .1), (omega (arith, t .count), tt)),
                 answered t (In (unpacked ss)) list₀ work₀ list work room₀ room c (there .1) k,
               );
             }
 
 pub starts-small : (ds ps ss room₀ room : List ℕ) (a : Counted) → StartsPackets ds ps ss room₀ a room → Small a
 starts-small ds ps ss room₀ room (counted.Count c) h =
-    let v = packet-valid ps (h .says .0 .1 .1 .1 .1 .0, (h .says .0 .1 .1 .1 .1 .1 .0, (h .says .0 .1 .1 .1 .1 .1 .1 .0, (h .says .0 .1 .1 .1 .1 .1 .1 .1 .0, tt)))) in
+    let v = packet-valid ps (
+      h .says .0 .1 .1 .1 .1 .0,
+      (
+        h .says .0 .1 .1 .1 .1 .1 .0,
+        (h .says .0 .1 .1 .1 .1 .1 .1 .0, (h .says .0 .1 .1 .1 .1 .1 .1 .1 .0, tt)),
+      ),
+    ) in
     let f = h .says .1 in
-    omega (arith, h .says .0 .1 .1 .1 .0 .few, f .count, answers-few (In (unpacked ss)) (shapeOf (packetPattern ps)) (packetDocument ds) (f .answers) (v .output) (f .lists))
+    omega (
+      arith,
+      h .says .0 .1 .1 .1 .0 .few,
+      f .count,
+      answers-few (In (unpacked ss)) (shapeOf (packetPattern ps)) (packetDocument ds) (f .answers)
+          (v .output) (f .lists),
+    )
 starts-small ds ps ss room₀ room (counted.Refused r) h = tt

@@ -48,7 +48,8 @@ put-unique p q room₀ room room′ c e s x y =
     let n : c ≡ e = x .0 ∙ ap lengthOf s ∙ sym (y .0) in
     (n, x .1 ∙ ap₂ (λ (p : Pattern) (m : ℕ). patternPacket (shapeOf p) ++ drop m room₀) s n ∙ sym (y .1))
 
-pub joins-packets-unique : (us es room₀ : List ℕ) (r q : Counted) (room room′ : List ℕ) → JoinsPackets us es room₀ r room → JoinsPackets us es room₀ q room′ → (r ≡ q) × (room ≡ room′)
+pub joins-packets-unique : (us es room₀ : List ℕ) (r q : Counted) (room room′ : List ℕ) → JoinsPackets us es room₀ r room → JoinsPackets us es room₀ q room′ →
+    (r ≡ q) × (room ≡ room′)
 joins-packets-unique us es room₀ r q room room′ h k =
     let J = joinOf (packetPattern us) (packetPattern es) in
     one-room (joinsChecks us es (length room₀)) r q room₀ room room′ (λ c. Put J room₀ c room) (λ c. Put J room₀ c room′)
@@ -58,34 +59,40 @@ rewritten-unique : (Q U : Pattern) (room₀ room room′ : List ℕ) (c e : ℕ)
 rewritten-unique Q U room₀ room room′ zero zero x y = (refl, x .1 ∙ sym (y .1))
 rewritten-unique Q U room₀ room room′ zero (suc e) x y = absurd (x .0 (y .0) (y .1))
 rewritten-unique Q U room₀ room room′ (suc c) zero x y = absurd (y .0 (x .0) (x .1))
-rewritten-unique Q U room₀ room room′ (suc c) (suc e) x y = put-unique (x .0) (y .0) room₀ room room′ (suc c) (suc e) (candidate-unique (x .1 .0) (y .1 .0)) (x .2) (y .2)
+rewritten-unique Q U room₀ room room′ (suc c) (suc e) x y = put-unique (x .0) (y .0) room₀ room room′ (suc c) (suc e) (candidate-unique (x .1 .0) (y .1 .0))
+    (x .2) (y .2)
 
-pub rewrites-packets-unique : (qs us room₀ : List ℕ) (r q : Counted) (room room′ : List ℕ) → RewritesPackets qs us room₀ r room → RewritesPackets qs us room₀ q room′ → (r ≡ q) × (room ≡ room′)
+pub rewrites-packets-unique : (qs us room₀ : List ℕ) (r q : Counted) (room room′ : List ℕ) → RewritesPackets qs us room₀ r room → RewritesPackets qs us room₀
+    q room′ → (r ≡ q) × (room ≡ room′)
 rewrites-packets-unique qs us room₀ r q room room′ h k =
     one-room (rewritesChecks qs us (length room₀)) r q room₀ room room′
     (λ c. Rewritten (packetPattern qs) (packetPattern us) room₀ c room) (λ c. Rewritten (packetPattern qs) (packetPattern us) room₀ c room′)
     (λ c e x y. rewritten-unique (packetPattern qs) (packetPattern us) room₀ room room′ c e x y) (h .says) (k .says)
 
-pub copies-packet-unique : (bs room₀ : List ℕ) (r q : Counted) (room room′ : List ℕ) → CopiesPacket bs room₀ r room → CopiesPacket bs room₀ q room′ → (r ≡ q) × (room ≡ room′)
+pub copies-packet-unique : (bs room₀ : List ℕ) (r q : Counted) (room room′ : List ℕ) → CopiesPacket bs room₀ r room → CopiesPacket bs room₀ q room′ → (r ≡ q)
+    × (room ≡ room′)
 copies-packet-unique bs room₀ r q room room′ h k =
     one-room (patternChecks bs ++ (record { asks = length bs ≤ length room₀; gives = 5 } ∷ [])) r q room₀ room room′
     (λ c. (c ≡ length bs) × (room ≡ bs ++ drop c room₀)) (λ c. (c ≡ length bs) × (room′ ≡ bs ++ drop c room₀))
     (λ c e x y. (x .0 ∙ sym (y .0), x .1 ∙ ap (λ m. bs ++ drop m room₀) (x .0 ∙ sym (y .0)) ∙ sym (y .1))) (h .says) (k .says)
 
-answered-unique : (First : ℕ → Type 0) (A : Shape) (d : Document) (room₀ room room′ : List ℕ) (c e : ℕ) → Answered First A d room₀ c room → Answered First A d room₀ e room′ → (c ≡ e) × (room ≡ room′)
+answered-unique : (First : ℕ → Type 0) (A : Shape) (d : Document) (room₀ room room′ : List ℕ) (c e : ℕ) → Answered First A d room₀ c room → Answered First A d
+    room₀ e room′ → (c ≡ e) × (room ≡ room′)
 answered-unique First A d room₀ room room′ c e x y =
     let s = lists-unique (Started First A d) (x .answers) (y .answers) (x .lists) (y .lists) in
     let n : c ≡ e = x .count ∙ ap length s ∙ sym (y .count) in
     (n, x .written ∙ ap₂ (λ (xs : List ℕ) (m : ℕ). packed xs ++ drop (2 * m) room₀) s n ∙ sym (y .written))
 
-pub answers-packets-unique : (ds ps room₀ : List ℕ) (r q : Counted) (room room′ : List ℕ) → AnswersPackets ds ps room₀ r room → AnswersPackets ds ps room₀ q room′ → (r ≡ q) × (room ≡ room′)
+pub answers-packets-unique : (ds ps room₀ : List ℕ) (r q : Counted) (room room′ : List ℕ) → AnswersPackets ds ps room₀ r room → AnswersPackets ds ps room₀ q
+    room′ → (r ≡ q) × (room ≡ room′)
 answers-packets-unique ds ps room₀ r q room room′ h k =
     let A = shapeOf (packetPattern ps) in
     one-room (packetChecks ds ps (length room₀)) r q room₀ room room′
     (λ c. Answered (Begins A) A (packetDocument ds) room₀ c room) (λ c. Answered (Begins A) A (packetDocument ds) room₀ c room′)
     (λ c e x y. answered-unique (Begins A) A (packetDocument ds) room₀ room room′ c e x y) (h .says) (k .says)
 
-pub starts-packets-unique : (ds ps ss room₀ : List ℕ) (r q : Counted) (room room′ : List ℕ) → StartsPackets ds ps ss room₀ r room → StartsPackets ds ps ss room₀ q room′ → (r ≡ q) × (room ≡ room′)
+pub starts-packets-unique : (ds ps ss room₀ : List ℕ) (r q : Counted) (room room′ : List ℕ) → StartsPackets ds ps ss room₀ r room → StartsPackets ds ps ss
+    room₀ q room′ → (r ≡ q) × (room ≡ room′)
 starts-packets-unique ds ps ss room₀ r q room room′ h k =
     let A = shapeOf (packetPattern ps) in
     one-room (startChecks ds ps ss (length room₀)) r q room₀ room room′
@@ -94,34 +101,45 @@ starts-packets-unique ds ps ss room₀ r q room room′ h k =
 
 shown-unique : (A B : Pattern) (room₀ room room′ : List ℕ) (c e : ℕ) → Shown A B room₀ c room → Shown A B room₀ e room′ → (c ≡ e) × (room ≡ room′)
 shown-unique A B room₀ room room′ zero zero x y =
-    let W : ℕ → List ℕ = λ l. documentPacket (witnessOf (shapeOf A) l) ++ (high (answerNode (shapeOf A)) ∷ low (answerNode (shapeOf A)) ∷ []) ++ drop (4 * witnessSize (shapeOf A) + 3 + 2) room₀ in
+    let W : ℕ → List ℕ = λ l. documentPacket (witnessOf (shapeOf A) l) ++ (high (answerNode (shapeOf A)) ∷ low (answerNode (shapeOf A)) ∷ []) ++ drop
+    (4 * witnessSize (shapeOf A) + 3 + 2) room₀ in
     (refl, x .written ∙ ap W (fresh-unique (x .fresh) (y .fresh)) ∙ sym (y .written))
 shown-unique A B room₀ room room′ zero (suc zero) x y = absurd (x .not-contained (y .contained))
 shown-unique A B room₀ room room′ zero (suc (suc e)) x y = absurd y
 shown-unique A B room₀ room room′ (suc zero) zero x y = absurd (y .not-contained (x .contained))
-shown-unique A B room₀ room room′ (suc zero) (suc zero) x y =
-    (refl, x .written ∙ ap (λ z. z ++ drop 64 room₀) (padded-ext (x .by) (y .by) (B .count) (least-map-unique (shapeOf B) (shapeOf A) (x .by) (y .by) (x .least) (y .least))) ∙ sym (y .written))
+shown-unique A B room₀ room room′ (suc zero) (suc zero) x y = (
+  refl,
+  x .written ∙ ap (λ z. z ++ drop 64 room₀) (padded-ext (x .by) (y .by) (B .count)
+      (least-map-unique (shapeOf B) (shapeOf A) (x .by) (y .by) (x .least) (y .least))) ∙ sym (y .written),
+)
 shown-unique A B room₀ room room′ (suc zero) (suc (suc e)) x y = absurd y
 shown-unique A B room₀ room room′ (suc (suc c)) e x y = absurd x
 
-pub contains-packets-unique : (xs ys room₀ : List ℕ) (r q : Counted) (room room′ : List ℕ) → ContainsPackets xs ys room₀ r room → ContainsPackets xs ys room₀ q room′ → (r ≡ q) × (room ≡ room′)
+pub contains-packets-unique : (xs ys room₀ : List ℕ) (r q : Counted) (room room′ : List ℕ) → ContainsPackets xs ys room₀ r room → ContainsPackets xs ys room₀
+    q room′ → (r ≡ q) × (room ≡ room′)
 contains-packets-unique xs ys room₀ r q room room′ h k =
     one-room (containsChecks xs ys (length room₀)) r q room₀ room room′
     (λ c. Shown (packetPattern xs) (packetPattern ys) room₀ c room) (λ c. Shown (packetPattern xs) (packetPattern ys) room₀ c room′)
     (λ c e x y. shown-unique (packetPattern xs) (packetPattern ys) room₀ room room′ c e x y) (h .says) (k .says)
 
-pub reads-into-unique : (bs parents₀ labels₀ : List ℕ) (r q : Counted) (parents parents′ labels labels′ : List ℕ) → ReadsInto bs parents₀ labels₀ r parents labels → ReadsInto bs parents₀ labels₀ q parents′ labels′
+pub reads-into-unique : (bs parents₀ labels₀ : List ℕ) (r q : Counted) (parents parents′ labels labels′ : List ℕ) → ReadsInto bs parents₀ labels₀ r parents
+    labels → ReadsInto bs parents₀ labels₀ q parents′ labels′
     → (r ≡ q) × (parents ≡ parents′) × (labels ≡ labels′)
-reads-into-unique bs parents₀ labels₀ r q parents parents′ labels labels′ h k = reads-document-unique bs parents₀ labels₀ r q parents parents′ labels labels′ (h .says) (k .says)
+reads-into-unique bs parents₀ labels₀ r q parents parents′ labels labels′ h k = reads-document-unique bs parents₀ labels₀ r q parents parents′ labels labels′
+    (h .says) (k .says)
 
-pub list-answers-unique : (d : Document) (ps list₀ work₀ : List ℕ) (r q : Counted) (list work list′ work′ : List ℕ) → ListAnswers d ps list₀ work₀ r list work → ListAnswers d ps list₀ work₀ q list′ work′
+pub list-answers-unique : (d : Document) (ps list₀ work₀ : List ℕ) (r q : Counted) (list work list′ work′ : List ℕ) → ListAnswers d ps list₀ work₀ r list work
+    → ListAnswers d ps list₀ work₀ q list′ work′
     → (r ≡ q) × (list ≡ list′) × (work ≡ work′)
 list-answers-unique d ps list₀ work₀ r q list work list′ work′ h k =
     let A = shapeOf (packetPattern ps) in
-    one-found A d (Begins A) (patternChecks ps ++ answerChecks (packetPattern ps) d (length list₀) (length work₀)) list₀ work₀ r q list work list′ work′ (h .says) (k .says)
+    one-found A d (Begins A) (patternChecks ps ++ answerChecks (packetPattern ps) d (length list₀) (length work₀)) list₀ work₀ r q list work list′ work′
+    (h .says) (k .says)
 
-pub list-started-unique : (d : Document) (ps starts list₀ work₀ : List ℕ) (r q : Counted) (list work list′ work′ : List ℕ) → ListStarted d ps starts list₀ work₀ r list work
+pub list-started-unique : (d : Document) (ps starts list₀ work₀ : List ℕ) (r q : Counted) (list work list′ work′ : List ℕ) → ListStarted d ps starts list₀
+    work₀ r list work
     → ListStarted d ps starts list₀ work₀ q list′ work′ → (r ≡ q) × (list ≡ list′) × (work ≡ work′)
 list-started-unique d ps starts list₀ work₀ r q list work list′ work′ h k =
     let A = shapeOf (packetPattern ps) in
-    one-found A d (In starts) (patternChecks ps ++ startedChecks (packetPattern ps) d starts (length list₀) (length work₀)) list₀ work₀ r q list work list′ work′ (h .says) (k .says)
+    one-found A d (In starts) (patternChecks ps ++ startedChecks (packetPattern ps) d starts (length list₀) (length work₀)) list₀ work₀ r q list work list′
+    work′ (h .says) (k .says)

@@ -46,7 +46,8 @@ written-next d room k out next l s e w =
       is =
           e
           ∙ ap (λ l. take (3 + 4 * k) l ++ nodeBytes d k ++ drop (3 + 4 * k + 4) l) (w .is)
-          ∙ put-block (head (nodeCount d) ++ blocks (nodeBytes d) k) (nodeBytes d k) room (3 + 4 * k) 4 (packet-length (head (nodeCount d)) (nodeBytes d) k (node-four d))
+          ∙ put-block (head (nodeCount d) ++ blocks (nodeBytes d) k) (nodeBytes d k) room (3 + 4 * k) 4
+          (packet-length (head (nodeCount d)) (nodeBytes d) k (node-four d))
           ∙ rw (add-one, m);
     }
 
@@ -72,4 +73,5 @@ unfolding mappingArray
 mapping-bytes f n m l e =
     let g : ℕ → ℕ = λ k. getD m k (stepNo 0) .0 in
     ext-getD 0 (column g 64) (padded f n) (column-length g 64 ∙ sym (padded-length f n l))
-    (λ k h. column-at g 64 k (omega (arith, column-length g 64)) ∙ ap (λ xs. getD xs k (stepNo 0) .0) e ∙ ap (λ s. s .0) (List·getD-map stepNo (padded f n) k 0))
+    (λ k h. column-at g 64 k (omega (arith, column-length g 64)) ∙ ap (λ xs. getD xs k (stepNo 0) .0) e ∙ ap (λ s. s .0)
+    (List·getD-map stepNo (padded f n) k 0))

@@ -49,7 +49,8 @@ unpacked bs = column (λ k. half bs (2 * k)) (length bs / 2)
 pub record AfterRules (d : Document) (r q : Refusal) : Type 0 where
   pub says : ((ValidDocument d → ⊥) × (q ≡ BadDocument)) ⊎ (ValidDocument d × (q ≡ r))
 
--- the document's packet is right but for the rules, which are open, and the pattern's packet is right; n nodes stand at the fronts of two lists, and p is the pattern
+-- the document's packet is right but for the rules, which are open, and the pattern's packet is right; n nodes stand at the fronts of two lists, and p is the
+-- pattern
 pub record Asked (ds ps parents₀ labels₀ : List ℕ) (n : ℕ) (p : Pattern) (parents labels : List ℕ) : Type 0 where
   pub header : Passes (take 3 (documentRules ds))
   pub checked : Passes (patternChecks ps)

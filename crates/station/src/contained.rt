@@ -54,7 +54,8 @@ fn put_node(out: &mut [u8], at: usize, p: u16, l: u16)
 // The packet of a document at the front of the room.
 fn put_document(parents: &[u16], labels: &[u16], room: &mut [u8])
     requires { ⌜ (length (now parents) ≤ 2048) × (length (now labels) ≡ length (now parents)) × (4 * length (now parents) + 3 ≤ length (now room)) ⌝ }
-    ensures { λ _. ⌜ now (room .exit) ≡ documentPacket (record { parents = now (parents .entry); labels = now (labels .entry) }) ++ drop (4 * length (now (parents .entry)) + 3) (now (room .entry)) ⌝ }
+    ensures { λ _. ⌜ now (room .exit) ≡ documentPacket (record { parents = now (parents .entry); labels = now (labels .entry) }) ++ drop
+        (4 * length (now (parents .entry)) + 3) (now (room .entry)) ⌝ }
 {
     let n = parents.len();
     put_head(room, n);
@@ -68,7 +69,8 @@ fn put_document(parents: &[u16], labels: &[u16], room: &mut [u8])
 // The packet of a document and then a node of it.
 fn put_witness(parents: &[u16], labels: &[u16], node: u16, room: &mut [u8])
     requires { ⌜ (length (now parents) ≤ 2048) × (length (now labels) ≡ length (now parents)) × (4 * length (now parents) + 5 ≤ length (now room)) ⌝ }
-    ensures { λ _. ⌜ now (room .exit) ≡ documentPacket (record { parents = now (parents .entry); labels = now (labels .entry) }) ++ (high node ∷ low node ∷ []) ++ drop (4 * length (now (parents .entry)) + 3 + 2) (now (room .entry)) ⌝ }
+    ensures { λ _. ⌜ now (room .exit) ≡ documentPacket (record { parents = now (parents .entry); labels = now (labels .entry) }) ++
+        (high node ∷ low node ∷ []) ++ drop (4 * length (now (parents .entry)) + 3 + 2) (now (room .entry)) ⌝ }
 {
     put_document(parents, labels, room);
     halves::put_half(room, 4 * parents.len() + 3, node);

@@ -28,7 +28,8 @@ fn after_rules(parents: &[u16], labels: &[u16], r: Refusal) -> Refusal
 // pattern's packet is refused, since they come before it; else they are left to the call that answers, which checks them anyway.
 fn read_asked(document: &[u8], pattern: &[u8], parents: &mut [u16], labels: &mut [u16]) -> AskedRead
     requires { ⌜ (2048 ≤ length (now parents)) × (2048 ≤ length (now labels)) ⌝ }
-    ensures { λ r. ⌜ ReadsAsked (now (document .entry)) (now (pattern .entry)) (now (parents .entry)) (now (labels .entry)) (r .answer) (r .pattern) (now (parents .exit)) (now (labels .exit)) ⌝ }
+    ensures { λ r. ⌜ ReadsAsked (now (document .entry)) (now (pattern .entry)) (now (parents .entry)) (now (labels .entry)) (r .answer) (r .pattern)
+        (now (parents .exit)) (now (labels .exit)) ⌝ }
 {
     let x = packets::read_pattern(pattern);
     let told = x.answer;

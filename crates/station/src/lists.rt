@@ -11,7 +11,8 @@ pub(crate) fn list_answers(
     list: &mut [u16],
     work: &mut [u64],
 ) -> Counted
-    ensures { λ r. ⌜ ListAnswers (record { parents = now (parents .entry); labels = now (labels .entry) }) (now (pattern .entry)) (now (list .entry)) (now (work .entry)) r (now (list .exit)) (now (work .exit)) ⌝ }
+    ensures { λ r. ⌜ ListAnswers (record { parents = now (parents .entry); labels = now (labels .entry) }) (now (pattern .entry)) (now (list .entry))
+        (now (work .entry)) r (now (list .exit)) (now (work .exit)) ⌝ }
 {
     let x = packets::read_pattern(pattern);
     let read = x.answer;
@@ -30,7 +31,8 @@ pub(crate) fn list_started(
     list: &mut [u16],
     work: &mut [u64],
 ) -> Counted
-    ensures { λ r. ⌜ ListStarted (record { parents = now (parents .entry); labels = now (labels .entry) }) (now (pattern .entry)) (now (starts .entry)) (now (list .entry)) (now (work .entry)) r (now (list .exit)) (now (work .exit)) ⌝ }
+    ensures { λ r. ⌜ ListStarted (record { parents = now (parents .entry); labels = now (labels .entry) }) (now (pattern .entry)) (now (starts .entry))
+        (now (list .entry)) (now (work .entry)) r (now (list .exit)) (now (work .exit)) ⌝ }
 {
     let x = packets::read_pattern(pattern);
     let read = x.answer;

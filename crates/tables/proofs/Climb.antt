@@ -37,7 +37,8 @@ below-climbs D v zero a i l b = omega (arith, below-lt v b)
 below-climbs D v (suc k) a i l b =
     let c : Child D (D .parent i) i = below-up b .0 in
     tells-or (tells-child D a i) (tells-and (tells-child D (D .parent i) i) tells-self) .test
-    (⊎-elim (λ e. inl (record { late = c .late; here = c .here; up = sym e })) (λ d. inr (c, below-climbs D v k a (D .parent i) (omega (arith, below-lt v (child c))) d)) (below-up b .1))
+    (⊎-elim (λ e. inl (record { late = c .late; here = c .here; up = sym e }))
+    (λ d. inr (c, below-climbs D v k a (D .parent i) (omega (arith, below-lt v (child c))) d)) (below-up b .1))
 
 -- what the test finds is below, in any table
 pub is-below-sound : (D : Tree) (a i : ℕ) → T (isBelow D a i) → Below D a i

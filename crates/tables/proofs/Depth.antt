@@ -70,10 +70,12 @@ module _ {T : Tree} (v : Ordered T) where
   -- what is below c stands in one run after c
   run-to : (c i w : ℕ) → Below T c i → c < w → w ≤ i → Below T c w
   run-to c zero w b l m = absurd (omega arith)
-  run-to c (suc i) w b l m = ⊎-elim (λ e. subst (Below T c) (sym e) b) (λ n. ⊎-elim (λ e. absurd (omega arith)) (λ d. run-to c i w d l (omega arith)) prev) (eq-or-lt-of-le m)
+  run-to c (suc i) w b l m = ⊎-elim (λ e. subst (Below T c) (sym e) b) (λ n. ⊎-elim (λ e. absurd (omega arith)) (λ d. run-to c i w d l (omega arith)) prev)
+      (eq-or-lt-of-le m)
     where
       prev : From T c i
-      prev = ⊎-elim (λ e. subst (From T c) e (below-up b .1)) (λ d. ⊎-elim (λ e. inr (subst (λ (x : ℕ). Below T x i) (sym e) d)) (λ r. inr (below-trans r d)) (below-up b .1)) (v .order i (below-up b .0 .here))
+      prev = ⊎-elim (λ e. subst (From T c) e (below-up b .1)) (λ d. ⊎-elim (λ e. inr (subst (λ (x : ℕ). Below T x i) (sym e) d)) (λ r. inr (below-trans r d))
+          (below-up b .1)) (v .order i (below-up b .0 .here))
 
   pub run : (c i w : ℕ) → From T c i → c ≤ w → w ≤ i → From T c w
   run c i w f l m = ⊎-elim (λ e. inl e) (λ n. ⊎-elim (λ e. absurd (omega arith)) (λ b. inr (run-to c i w b n m)) f) (eq-or-lt-of-le l)

@@ -20,7 +20,8 @@ pub record Filled (A : Shape) (k : ℕ) (p : Pattern) : Type 0 where
   pub labels : p .label ≡ padded (A .label) k
 
 -- none yet
-pub filled-none : (A : Shape) (n o : ℕ) → n ≡ A .tree .size → o ≡ A .output → A .tree .size ≤ 64 → Filled A 0 (tableOf n o (replicate 64 0) (replicate 64 0) (replicate 64 0))
+pub filled-none : (A : Shape) (n o : ℕ) → n ≡ A .tree .size → o ≡ A .output → A .tree .size ≤ 64 → Filled A 0
+    (tableOf n o (replicate 64 0) (replicate 64 0) (replicate 64 0))
 unfolding blocks tableOf
 filled-none A n o e f l = record { low = omega arith; few = l; count = e; output = f; parents = refl; axes = refl; labels = refl }
 

@@ -30,7 +30,8 @@ marks-to x P Q f g m = record { put = λ s a. m .put s (g s a); only = λ s e. f
 pub marks-or : (x y : ℕ) (P Q : ℕ → Type 0) → Marks x P → Marks y Q → Marks (bitOr x y) (λ (s : ℕ). P s ⊎ Q s)
 marks-or x y P Q m n =
     record {
-      put = λ s a. let o = bit-or x y s in let hx = bit-lt x s in let hy = bit-lt y s in elim a [ inl p ↦ (let e = m .put s p in omega arith) | inr q ↦ (let e = n .put s q in omega arith) ];
+      put = λ s a. let o = bit-or x y s in let hx = bit-lt x s in let hy = bit-lt y s in elim a
+          [ inl p ↦ (let e = m .put s p in omega arith) | inr q ↦ (let e = n .put s q in omega arith) ];
       only = λ s e. let o = bit-or x y s in elim (bit-cases x s) [ inl h ↦ inl (m .only s h) | inr h ↦ inr (n .only s (omega arith)) ];
     }
 

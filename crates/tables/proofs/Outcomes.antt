@@ -28,16 +28,19 @@ counted-both cs (counted.Refused r) (counted.Refused q) f g h k = g (h .1) (k .1
 -- the first checks of a call, of which another call decides `front` and, in other words, the next one
 module _ {X Y : Type 0} (e : X ↔ Y) (g : ℕ) (rest : List Check) where
   -- what refuses there refuses here
-  pub front-refuses : (front : List Check) (r : Refusal) → Refuses (front ++ (record { asks = X; gives = g } ∷ [])) r → Refuses (front ++ (record { asks = Y; gives = g } ∷ rest)) r
+  pub front-refuses : (front : List Check) (r : Refusal) → Refuses (front ++ (record { asks = X; gives = g } ∷ [])) r → Refuses
+      (front ++ (record { asks = Y; gives = g } ∷ rest)) r
   front-refuses [] r h = ⊎-elim (λ w. inl (λ y. w .0 (e .1 y), w .1)) (λ w. absurd (w .1)) h
   front-refuses (c ∷ cs) r h = ⊎-elim inl (λ w. inr (w .0, front-refuses cs r (w .1))) h
 
   -- where all pass there, the rest refuses here
-  pub rest-refuses : (front : List Check) (r : Refusal) → Passes (front ++ (record { asks = X; gives = g } ∷ [])) → Refuses rest r → Refuses (front ++ (record { asks = Y; gives = g } ∷ rest)) r
+  pub rest-refuses : (front : List Check) (r : Refusal) → Passes (front ++ (record { asks = X; gives = g } ∷ [])) → Refuses rest r → Refuses
+      (front ++ (record { asks = Y; gives = g } ∷ rest)) r
   rest-refuses [] r p h = inr (e .0 (p .0), h)
   rest-refuses (c ∷ cs) r p h = inr (p .0, rest-refuses cs r (p .1) h)
 
   -- or passes
-  pub rest-passes : (front : List Check) → Passes (front ++ (record { asks = X; gives = g } ∷ [])) → Passes rest → Passes (front ++ (record { asks = Y; gives = g } ∷ rest))
+  pub rest-passes : (front : List Check) → Passes (front ++ (record { asks = X; gives = g } ∷ [])) → Passes rest → Passes
+      (front ++ (record { asks = Y; gives = g } ∷ rest))
   rest-passes [] p h = (e .0 (p .0), h)
   rest-passes (c ∷ cs) p h = (p .0, rest-passes cs (p .1) h)

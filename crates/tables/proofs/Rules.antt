@@ -62,7 +62,8 @@ agree-trans {A} {B} {C} e f = record {
 pub pattern-of-agree : {A B : Shape} → Agree A B → patternOf A ≡ patternOf B
 unfolding patternOf
 pattern-of-agree {A} {B} e =
-    let p : padded (A .tree .parent) (A .tree .size) ≡ padded (B .tree .parent) (A .tree .size) = padded-ext (A .tree .parent) (B .tree .parent) (A .tree .size) (e .parent) in
+    let p : padded (A .tree .parent) (A .tree .size) ≡ padded (B .tree .parent) (A .tree .size) = padded-ext (A .tree .parent) (B .tree .parent)
+    (A .tree .size) (e .parent) in
     let x : padded (A .axis) (A .tree .size) ≡ padded (B .axis) (A .tree .size) = padded-ext (A .axis) (B .axis) (A .tree .size) (e .axis) in
     let l : padded (A .label) (A .tree .size) ≡ padded (B .label) (A .tree .size) = padded-ext (A .label) (B .label) (A .tree .size) (e .label) in
     let s : A .tree .size ≡ B .tree .size = e .size in
@@ -79,7 +80,8 @@ isLabel l = ltb 0 l && ltb l 65536
 
 pub tells-label : (l : ℕ) → Tells (isLabel l) (IsLabel l)
 unfolding isLabel
-tells-label l = tells-iff (tells-and (tells-lt 0 l) (tells-lt l 65536)) (λ p. record { least = p .0; most = omega (arith, p .1) }, λ h. (h .least, omega (arith, h .most)))
+tells-label l = tells-iff (tells-and (tells-lt 0 l) (tells-lt l 65536))
+    (λ p. record { least = p .0; most = omega (arith, p .1) }, λ h. (h .least, omega (arith, h .most)))
 
 unfoldable pub stepRight : Shape → ℕ → Bool
 stepRight A s = hangsRight (A .tree) 255 s && ((eqb (A .axis s) 0 || eqb (A .axis s) 1) && isLabel (A .label s))
@@ -96,13 +98,15 @@ isDocument d = ltb 0 (nodeCount d) && (ltb (nodeCount d) 2049 && (eqb (length (d
 step-sound : (A : Shape) (s : ℕ) → T (stepRight A s) → StepRule A s
 unfolding stepRight
 step-sound A s t =
-    let p = tells-and (tells-self {b = hangsRight (A .tree) 255 s}) (tells-and (tells-or (tells-eq (A .axis s) 0) (tells-eq (A .axis s) 1)) (tells-label (A .label s))) .says t in
+    let p = tells-and (tells-self {b = hangsRight (A .tree) 255 s}) (tells-and (tells-or (tells-eq (A .axis s) 0) (tells-eq (A .axis s) 1))
+    (tells-label (A .label s))) .says t in
     record { hangs = hangs-sound (A .tree) 255 s (p .0); axis = p .1 .0; label = p .1 .1 }
 
 step-complete : (A : Shape) → Ordered (A .tree) → (s : ℕ) → StepRule A s → T (stepRight A s)
 unfolding stepRight
 step-complete A v s r =
-    tells-and (tells-self {b = hangsRight (A .tree) 255 s}) (tells-and (tells-or (tells-eq (A .axis s) 0) (tells-eq (A .axis s) 1)) (tells-label (A .label s))) .test
+    tells-and (tells-self {b = hangsRight (A .tree) 255 s}) (tells-and (tells-or (tells-eq (A .axis s) 0) (tells-eq (A .axis s) 1))
+    (tells-label (A .label s))) .test
     (hangs-complete (A .tree) v 255 s (r .hangs), (r .axis, r .label))
 
 node-sound : (d : Document) (i : ℕ) → T (nodeRight d i) → NodeRule d i
@@ -113,7 +117,8 @@ node-sound d i t =
 
 node-complete : (d : Document) → Ordered (nodesOf d .tree) → (i : ℕ) → NodeRule d i → T (nodeRight d i)
 unfolding nodeRight
-node-complete d v i r = tells-and (tells-self {b = hangsRight (nodesOf d .tree) 65535 i}) (tells-label (getD (d .labels) i 0)) .test (hangs-complete (nodesOf d .tree) v 65535 i (r .hangs), r .label)
+node-complete d v i r = tells-and (tells-self {b = hangsRight (nodesOf d .tree) 65535 i}) (tells-label (getD (d .labels) i 0)) .test
+    (hangs-complete (nodesOf d .tree) v 65535 i (r .hangs), r .label)
 
 pub tells-pattern : (A : Shape) → Tells (isPattern A) (ValidShape A)
 unfolding isPattern
@@ -140,7 +145,8 @@ pattern-ext p q n o ps xs ls = λ i. tableOf (n i) (o i) (ps i) (xs i) (ls i)
 
 unfoldable pub samePattern : Pattern → Pattern → Bool
 samePattern p q =
-    eqb (p .count) (q .count) && (eqb (p .output .0) (q .output .0) && (sameList (p .parent) (q .parent) && (sameList (p .axis) (q .axis) && sameList (p .label) (q .label))))
+    eqb (p .count) (q .count) && (eqb (p .output .0) (q .output .0) &&
+    (sameList (p .parent) (q .parent) && (sameList (p .axis) (q .axis) && sameList (p .label) (q .label))))
 
 pub same-pattern : (p q : Pattern) → T (samePattern p q) → p ≡ q
 unfolding samePattern

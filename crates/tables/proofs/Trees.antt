@@ -25,7 +25,8 @@ below-lt-to {T} {a} {i} h (under {m = m} c b) =
     omega arith
 
 -- a row that hangs right, and with it every row before it, has a parent before it
-pub parent-lt-to : {T : Tree} (k : ℕ) → ((j : ℕ) → j < k → suc j < T .size → From T (T .parent (suc j)) j) → (i : ℕ) → i ≤ k → 0 < i → i < T .size → T .parent i < i
+pub parent-lt-to : {T : Tree} (k : ℕ) → ((j : ℕ) → j < k → suc j < T .size → From T (T .parent (suc j)) j) → (i : ℕ) → i ≤ k → 0 < i → i < T .size → T .parent
+    i < i
 parent-lt-to zero v i l p s = omega arith
 parent-lt-to (suc k) v zero l p s = omega arith
 parent-lt-to (suc k) v (suc i) l p s = ⊎-elim
@@ -63,7 +64,8 @@ root-to v zero i l p h = absurd (omega arith)
 root-to {T} v (suc k) i l p h =
     let c : Child T (T .parent i) i = record { late = p; here = h; up = refl } in
     let g : T .parent i < i = parent-lt v i p h in
-    ⊎-elim (λ e. child (record { late = p; here = h; up = e })) (λ q. under c (root-to v k (T .parent i) (omega arith) q (omega arith))) (eq-zero-or-pos (T .parent i))
+    ⊎-elim (λ e. child (record { late = p; here = h; up = e })) (λ q. under c (root-to v k (T .parent i) (omega arith) q (omega arith)))
+    (eq-zero-or-pos (T .parent i))
 
 pub below-root : {T : Tree} → Ordered T → (i : ℕ) → 0 < i → i < T .size → Below T 0 i
 below-root v i = root-to v i i (omega arith)
@@ -71,13 +73,15 @@ below-root v i = root-to v i i (omega arith)
 -- a test for "below", by climbing
 dec-to : {T : Tree} → Ordered T → (k s u : ℕ) → u ≤ k → Dec (Below T s u)
 dec-to v zero s u l = no (λ b. omega (arith, below-lt v b))
-dec-to {T} v (suc k) s u l = go (λ p h. dec-to v k s (T .parent u) (omega (arith, parent-lt v u p h))) (decLt 0 u) (decLt u (T .size)) (ℕ-discrete (T .parent u) s)
+dec-to {T} v (suc k) s u l = go (λ p h. dec-to v k s (T .parent u) (omega (arith, parent-lt v u p h))) (decLt 0 u) (decLt u (T .size))
+    (ℕ-discrete (T .parent u) s)
   where
     go : (0 < u → u < T .size → Dec (Below T s (T .parent u))) → Dec (0 < u) → Dec (u < T .size) → Dec (T .parent u ≡ s) → Dec (Below T s u)
     go r (no p) h e = no (λ b. p (below-up b .0 .late))
     go r (yes p) (no h) e = no (λ b. h (below-here b))
     go r (yes p) (yes h) (yes e) = yes (child (record { late = p; here = h; up = e }))
-    go r (yes p) (yes h) (no e) = map-dec (under (record { late = p; here = h; up = refl })) (λ b. ⊎-elim (λ f. absurd (e (sym f))) (λ d. d) (below-up b .1)) (r p h)
+    go r (yes p) (yes h) (no e) = map-dec (under (record { late = p; here = h; up = refl })) (λ b. ⊎-elim (λ f. absurd (e (sym f))) (λ d. d) (below-up b .1))
+        (r p h)
 
 pub dec-below : {T : Tree} → Ordered T → (s u : ℕ) → Dec (Below T s u)
 dec-below v s u = dec-to v u s u (omega arith)

@@ -1,4 +1,5 @@
--- Lists that are written block by block or entry by entry, and arrays of 64 entries of which only the first are in use (docs/RULES.md, "Tables"). Assumes nothing.
+-- Lists that are written block by block or entry by entry, and arrays of 64 entries of which only the first are in use (docs/RULES.md, "Tables"). Assumes
+-- nothing.
 use Prim.Native.Nat.{ℕ, zero, suc}
 use mathlib.Core.List.{List, [], _∷_, _++_}
 use lib.ListN.{drop, replicate}

@@ -12,14 +12,20 @@ use Rattle.answers.proofs.answers.Tie as tie
 
 -- the first check passed
 patterned : (x : tie.After-enum-told) → ValidPattern (x .before .before .before .before .before .before .before .args .p)
-patterned x = subst (ChecksPattern (x .before .before .before .before .before .before .before .args .p)) (x .enum-told .given .1) (x .before .before .check-pattern .ensures) .0 .0
+patterned x = subst (ChecksPattern (x .before .before .before .before .before .before .before .args .p)) (x .enum-told .given .1)
+    (x .before .before .check-pattern .ensures) .0 .0
 
 -- and the second
 documented : (y : tie.After-enum-told2)
-    → ValidDocument (record { parents = now (y .before .before .before .before .before .before .before .before .before .before .args .parents); labels = now (y .before .before .before .before .before .before .before .before .before .before .args .labels) })
+    → ValidDocument (record {
+      parents = now (y .before .before .before .before .before .before .before .before .before .before .args .parents);
+      labels = now
+          (y .before .before .before .before .before .before .before .before .before .before .args .labels);
+    })
 documented y =
     let s = y .before .before .before .before .before .before .before .before .before .before in
-    subst (ChecksDocument (record { parents = now (s .args .parents); labels = now (s .args .labels) })) (y .enum-told2 .given .1) (y .before .before .check-document .ensures) .0 .0
+    subst (ChecksDocument (record { parents = now (s .args .parents); labels = now (s .args .labels) })) (y .enum-told2 .given .1)
+    (y .before .before .check-document .ensures) .0 .0
 
 returns : tie.Need-returns
 returns c =
@@ -31,7 +37,8 @@ returns-2 : tie.Need-returns-2
 returns-2 c =
     let x = c .before .before .before .before in
     let s = x .before .before .before .before .before .before .before in
-    let v = subst (ChecksDocument (record { parents = now (s .args .parents); labels = now (s .args .labels) })) (c .before .r2 .given .1) (c .before .before .before .check-document .ensures) in
+    let v = subst (ChecksDocument (record { parents = now (s .args .parents); labels = now (s .args .labels) })) (c .before .r2 .given .1)
+    (c .before .before .before .check-document .ensures) in
     (inr (patterned x, ⊎-elim inl (λ w. absurd (w .1)) (v .0)), (refl, refl))
 
 returns-3 : tie.Need-returns-3

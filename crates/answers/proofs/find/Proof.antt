@@ -10,8 +10,17 @@ use Rattle.answers.proofs.find.Tie as tie
 descend-requires : tie.Need-descend-requires
 descend-requires c κs =
     let s = c .before .before .before .before .before .before .before .before .before .before .before in
-    let v = s .pre .1 .0 in
-    (s .pre .0, (v, (s .pre .1 .1 .0, plain-ready (shapeOf (s .args .t1)) _ (s .pre .0) v _ _ (s .pre .1 .1 .1) (c .before .before .before .before .rise .ensures))))
+    let v = s .pre .1 .0 in (
+      s .pre .0,
+      (
+        v,
+        (
+          s .pre .1 .1 .0,
+          plain-ready (shapeOf (s .args .t1)) _ (s .pre .0) v _ _ (s .pre .1 .1 .1)
+              (c .before .before .before .before .rise .ensures),
+        ),
+      ),
+    )
 
 returns : tie.Need-returns
 returns c =
@@ -20,7 +29,8 @@ returns c =
     let A = shapeOf (s .args .t1) in
     let u = c .before .before .before .before .before .before .before .before .before .rise .ensures in
     found-first A _ _ (Begins A) (s .pre .0) (plain-first A _ (s .pre .0) v _ _ (s .pre .1 .1 .1) u) _ _ _ _ _
-    (found-before A _ _ _ _ _ _ _ _ (plain-length A _ (s .pre .0) v _ _ (s .pre .1 .1 .1) u) (plain-rest A _ (s .pre .0) v _ _ (s .pre .1 .1 .1) u) (c .before .before .before .before .descend .ensures))
+    (found-before A _ _ _ _ _ _ _ _ (plain-length A _ (s .pre .0) v _ _ (s .pre .1 .1 .1) u) (plain-rest A _ (s .pre .0) v _ _ (s .pre .1 .1 .1) u)
+    (c .before .before .before .before .descend .ensures))
 
 same-length-2 : tie.Need-same-length-2
 same-length-2 c = returns c .working .same-length

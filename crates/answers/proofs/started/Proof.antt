@@ -15,20 +15,33 @@ use Rattle.answers.proofs.started.Tie as tie
 
 -- the first check passed
 patterned : (x : tie.After-enum-told) → ValidPattern (x .before .before .before .before .before .before .before .before .args .t1)
-patterned x = subst (ChecksPattern (x .before .before .before .before .before .before .before .before .args .t1)) (x .enum-told .given .1) (x .before .before .check-pattern .ensures) .0 .0
+patterned x = subst (ChecksPattern (x .before .before .before .before .before .before .before .before .args .t1)) (x .enum-told .given .1)
+    (x .before .before .check-pattern .ensures) .0 .0
 
 -- and the second
 documented : (y : tie.After-enum-told2)
-    → ValidDocument (record { parents = now (y .before .before .before .before .before .before .before .before .before .before .before .args .parents); labels = now (y .before .before .before .before .before .before .before .before .before .before .before .args .labels) })
+    → ValidDocument (record {
+      parents = now (y .before .before .before .before .before .before .before .before .before .before .before .args .parents);
+      labels = now (y .before .before .before .before .before .before .before .before .before .before .before .args .labels);
+    })
 documented y =
     let s = y .before .before .before .before .before .before .before .before .before .before .before in
-    subst (ChecksDocument (record { parents = now (s .args .parents); labels = now (s .args .labels) })) (y .enum-told2 .given .1) (y .before .before .check-document .ensures) .0 .0
+    subst (ChecksDocument (record { parents = now (s .args .parents); labels = now (s .args .labels) })) (y .enum-told2 .given .1)
+    (y .before .before .check-document .ensures) .0 .0
 
 -- and the start
-begun : (z : tie.Else2) → (shapeOf (z .before .before .before .before .before .before .before .before .before .before .before .before .before .before .before .args .t1) .axis 0 ≡ 0)
-    × StartList (record { parents = now (z .before .before .before .before .before .before .before .before .before .before .before .before .before .before .before .args .parents); labels = now (z .before .before .before .before .before .before .before .before .before .before .before .before .before .before .before .args .labels) }) (now (z .before .before .before .before .before .before .before .before .before .before .before .before .before .before .before .args .starts))
+begun : (z : tie.Else2) → (shapeOf (z .before .before .before .before .before .before .before .before .before .before .before .before .before .before .before
+    .args .t1) .axis 0 ≡ 0)
+    × StartList (record {
+      parents = now (z .before .before .before .before .before .before .before .before .before .before .before .before .before .before
+          .before .args .parents);
+      labels = now (z .before .before .before .before .before .before .before .before .before .before .before .before .before
+          .before .before .args .labels);
+    }) (now (z .before .before .before .before .before .before .before .before .before .before .before .before .before
+    .before .before .args .starts))
 begun z =
-    let w = says-passed (StartsRight (now (z .before .before .before .before .before .before .before .before .before .before .before .before .before .before .before .args .starts)) _) (z .before .starts-right .result) (z .if2 .left) (z .before .starts-right .ensures) in
+    let w = says-passed (StartsRight (now (z .before .before .before .before .before .before .before .before .before .before .before .before .before .before
+    .before .args .starts)) _) (z .before .starts-right .result) (z .if2 .left) (z .before .starts-right .ensures) in
     (z .before .before .if1 .left, record { ascending = w .0; nodes = w .1 })
 
 returns : tie.Need-returns
@@ -41,7 +54,8 @@ returns-2 : tie.Need-returns-2
 returns-2 c =
     let x = c .before .before .before .before in
     let s = x .before .before .before .before .before .before .before .before in
-    let v = subst (ChecksDocument (record { parents = now (s .args .parents); labels = now (s .args .labels) })) (c .before .r2 .given .1) (c .before .before .before .check-document .ensures) in
+    let v = subst (ChecksDocument (record { parents = now (s .args .parents); labels = now (s .args .labels) })) (c .before .r2 .given .1)
+    (c .before .before .before .check-document .ensures) in
     (inr (patterned x, ⊎-elim inl (λ w. absurd (w .1)) (v .0)), (refl, refl))
 
 returns-3 : tie.Need-returns-3
@@ -51,8 +65,20 @@ returns-3 c =
 
 returns-4 : tie.Need-returns-4
 returns-4 c =
-    let y = c .before .before .before .before in
-    (inr (patterned (y .before .before .before), inr (documented y, inl (λ w. says-failed (StartsRight (now (c .before .before .before .before .before .before .before .before .before .before .before .before .before .before .before .args .starts)) _) (c .before .starts-right .result) (c .if2 .taken) (c .before .starts-right .ensures) (w .1 .ascending, w .1 .nodes), refl))), (refl, refl))
+    let y = c .before .before .before .before in (
+      inr (
+        patterned (y .before .before .before),
+        inr (
+          documented y,
+          inl (
+            λ w. says-failed (StartsRight (now (c .before .before .before .before .before .before .before .before .before .before .before .before .before .before
+                .before .args .starts)) _) (c .before .starts-right .result) (c .if2 .taken) (c .before .starts-right .ensures) (w .1 .ascending, w .1 .nodes),
+            refl,
+          ),
+        ),
+      ),
+      (refl, refl),
+    )
 
 returns-5 : tie.Need-returns-5
 returns-5 c =
@@ -71,8 +97,19 @@ find-started-requires c κs =
 
 returns-7 : tie.Need-returns-7
 returns-7 c =
-    let y = c .before .before .before .before .before .before .before .before .before .before .before .before .before in
-    ((patterned (y .before .before .before), (documented y, (begun (c .before .before .before .before .before .before .before .before .before), ((omega arith, omega arith), tt)))), c .before .before .before .before .find-started .ensures)
+    let y = c .before .before .before .before .before .before .before .before .before .before .before .before .before in (
+      (
+        patterned (y .before .before .before),
+        (
+          documented y,
+          (
+            begun (c .before .before .before .before .before .before .before .before .before),
+            ((omega arith, omega arith), tt),
+          ),
+        ),
+      ),
+      c .before .before .before .before .find-started .ensures,
+    )
 
 pub started-spec : {M : Type 1} → statement M
 started-spec = tie.close (tie.spec (λ c κs. search needs) (λ c. search needs) returns (λ c. search needs) (λ c κs. search needs) (λ c. search needs)

@@ -11,14 +11,16 @@ array-share-prefix-text : tie.Need-array-share-prefix-text
 array-share-prefix-text c =
     let r = c .before .before .before .before .reply in
     let f = c .before .before .before .before .before .before .before .before .read-full in
-    reply-fits (take (f .result) (f .last .1 .0)) (replicate 32768 0) (r .result) (c .before .c .given .0 .0) (r .last .1 .0) (c .before .c .given .1) (r .ensures)
+    reply-fits (take (f .result) (f .last .1 .0)) (replicate 32768 0) (r .result) (c .before .c .given .0 .0) (r .last .1 .0) (c .before .c .given .1)
+    (r .ensures)
 
 slice-aggregate-write-all : tie.Need-slice-aggregate-write-all
 slice-aggregate-write-all c =
     let r = c .before .before .before .before .before .reply in
     let f = c .before .before .before .before .before .before .before .before .before .read-full in
     let k = c .before .before .c .given in
-    sym (length-take-le (k .0 .0) (r .last .1 .0) (reply-fits (take (f .result) (f .last .1 .0)) (replicate 32768 0) (r .result) (k .0 .0) (r .last .1 .0) (k .1) (r .ensures)))
+    sym (length-take-le (k .0 .0) (r .last .1 .0) (reply-fits (take (f .result) (f .last .1 .0)) (replicate 32768 0) (r .result) (k .0 .0) (r .last .1 .0)
+    (k .1) (r .ensures)))
 
 returns : tie.Need-returns
 returns c = search needs

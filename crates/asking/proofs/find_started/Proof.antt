@@ -14,15 +14,27 @@ returns : tie.Need-returns
 returns c =
     let x = c .before .before .before .before .before .before .before .before .before .before .before .before .before in
     let a = c .before .before .before .before .before .before .started in
-    let h = subst (λ r. FindsStarted (x .args .p) (record { parents = now (x .args .parents); labels = now (x .args .labels) }) (now (x .args .starts)) (now (x .args .list)) (replicate 4096 0) r (a .last .1 .1 .1 .1 .0) (a .last .1 .1 .1 .1 .1 .0)) (c .before .c .given .1) (a .ensures) in
+    let h = subst (λ r. FindsStarted (x .args .p) (record { parents = now (x .args .parents); labels = now (x .args .labels) }) (now (x .args .starts))
+    (now (x .args .list)) (replicate 4096 0) r (a .last .1 .1 .1 .1 .0) (a .last .1 .1 .1 .1 .1 .0)) (c .before .c .given .1) (a .ensures) in
     found-finds (h .1)
 
 returns-2 : tie.Need-returns-2
 returns-2 c =
     let x = c .before .before .before .before .before .before .before .before .before .before .before .before in
     let a = c .before .before .before .before .before .started in
-    let h = subst (λ r. FindsStarted (x .args .p) (record { parents = now (x .args .parents); labels = now (x .args .labels) }) (now (x .args .starts)) (now (x .args .list)) (replicate 4096 0) r (a .last .1 .1 .1 .1 .0) (a .last .1 .1 .1 .1 .1 .0)) (c .enum-told .given .1) (a .ensures) in
-    absurd (refuses-not-passes (startedChecks (x .args .p) (record { parents = now (x .args .parents); labels = now (x .args .labels) }) (now (x .args .starts)) (length (now (x .args .list))) 4096) (c .enum-told .given .0 .0) (h .0) (x .pre .0, (x .pre .1 .0, ((x .pre .1 .1 .0, x .pre .1 .1 .1 .0), ((omega (arith, x .pre .1 .1 .1 .1, x .pre .1 .0 .few), omega (arith, x .pre .1 .0 .few)), tt)))))
+    let h = subst (λ r. FindsStarted (x .args .p) (record { parents = now (x .args .parents); labels = now (x .args .labels) }) (now (x .args .starts))
+    (now (x .args .list)) (replicate 4096 0) r (a .last .1 .1 .1 .1 .0) (a .last .1 .1 .1 .1 .1 .0)) (c .enum-told .given .1) (a .ensures) in
+    absurd (refuses-not-passes (startedChecks (x .args .p) (record { parents = now (x .args .parents); labels = now (x .args .labels) })
+    (now (x .args .starts)) (length (now (x .args .list))) 4096) (c .enum-told .given .0 .0) (h .0) (
+      x .pre .0,
+      (
+        x .pre .1 .0,
+        (
+          (x .pre .1 .1 .0, x .pre .1 .1 .1 .0),
+          ((omega (arith, x .pre .1 .1 .1 .1, x .pre .1 .0 .few), omega (arith, x .pre .1 .0 .few)), tt),
+        ),
+      ),
+    ))
 
 pub find-started-spec : {M : Type 1} → statement M
 find-started-spec = tie.close (tie.spec (λ c. search needs) (λ c κs. search needs) (λ c. search needs) (λ c. search needs) (λ c. search needs) returns

@@ -21,15 +21,23 @@ put-refused-requires : tie.Need-put-refused-requires
 put-refused-requires c κs =
     let x = c .before .before .before .before .before .before .before .before .before .before .before in
     let m = c .before .number-of in
-    omega (arith, x .pre .1 .1 .1, refused-short (m .result) viewWord (omega (arith, m .ensures, number-small (c .before .before .before .before .viewed .given .0 .0))))
+    omega (
+      arith,
+      x .pre .1 .1 .1,
+      refused-short (m .result) viewWord (omega
+          (arith, m .ensures, number-small (c .before .before .before .before .viewed .given .0 .0))),
+    )
 
 returns : tie.Need-returns
 returns c =
     let x = c .before .before .before .before .before .before .before .before .before .before .before .before .before .before in
     let v = c .before .before .before .before .before .before .before .before .before .pattern-at in
-    let u = subst (λ z. ReadAt (now (x .args .input)) (x .args .a) z (v .result .pattern)) (c .before .before .before .before .before .before .before .viewed .given .1) (v .ensures) in
+    let u = subst (λ z. ReadAt (now (x .args .input)) (x .args .a) z (v .result .pattern))
+    (c .before .before .before .before .before .before .before .viewed .given .1) (v .ensures) in
     let m = c .before .before .before .before .number-of in
-    view-refused (now (x .args .input)) (x .args .a) (x .pre .0) (x .pre .1 .0) (c .before .before .before .before .before .before .before .viewed .given .0 .0) (v .result .pattern) (m .result) (m .ensures) u (c .before .before .put-refused .ensures)
+    view-refused (now (x .args .input)) (x .args .a) (x .pre .0) (x .pre .1 .0)
+    (c .before .before .before .before .before .before .before .viewed .given .0 .0) (v .result .pattern) (m .result) (m .ensures) u
+    (c .before .before .put-refused .ensures)
 
 next-at-requires : tie.Need-next-at-requires
 next-at-requires c κs =
@@ -40,7 +48,12 @@ pattern-at-requires-2 : tie.Need-pattern-at-requires-2
 pattern-at-requires-2 c κs =
     let x = c .before .before .before .before .before .before .before .before in
     let n = c .next-at in
-    omega (arith, n .ensures, next-within (now (x .args .input)) (x .args .a) (omega (arith, x .pre .0, next-within (now (x .args .input)) 0 (omega arith) .1)) .1)
+    omega (
+      arith,
+      n .ensures,
+      next-within (now (x .args .input)) (x .args .a)
+          (omega (arith, x .pre .0, next-within (now (x .args .input)) 0 (omega arith) .1)) .1,
+    )
 
 -- either word has room; which one is written is for the result
 put-refused-requires-2 : tie.Need-put-refused-requires-2
@@ -54,18 +67,27 @@ returns-2 : tie.Need-returns-2
 returns-2 c =
     let x = c .before .before .before .before .before .before .before .before .before .before .before .before .before .before .before .before .before .before in
     let v = c .before .before .before .before .before .before .before .before .before .before .before .before .before .pattern-at in
-    let u = subst (λ z. ReadAt (now (x .args .input)) (x .args .a) z (v .result .pattern)) (c .before .before .before .before .before .before .before .before .before .before .before .enum-told .given .1) (v .ensures) in
+    let u = subst (λ z. ReadAt (now (x .args .input)) (x .args .a) z (v .result .pattern))
+    (c .before .before .before .before .before .before .before .before .before .before .before .enum-told .given .1) (v .ensures) in
     let n = c .before .before .before .before .before .before .before .before .before .before .next-at in
     let w = c .before .before .before .before .before .before .before .before .before .pattern-at2 in
-    let q = subst (λ z. ReadAt (now (x .args .input)) (n .result) z (w .result .pattern)) (c .before .before .before .before .before .before .before .queried .given .1) (w .ensures) in
+    let q = subst (λ z. ReadAt (now (x .args .input)) (n .result) z (w .result .pattern))
+    (c .before .before .before .before .before .before .before .queried .given .1) (w .ensures) in
     let m = c .before .before .before .before .number-of2 in
-    query-refused (now (x .args .input)) (x .args .a) (x .pre .0) (x .pre .1 .0) (v .result .pattern) u (n .result) (n .ensures) (c .before .before .before .before .before .before .before .queried .given .0 .0) (w .result .pattern) (m .result) (m .ensures) q (c .before .before .put-refused2 .ensures)
+    query-refused (now (x .args .input)) (x .args .a) (x .pre .0) (x .pre .1 .0) (v .result .pattern) u (n .result) (n .ensures)
+    (c .before .before .before .before .before .before .before .queried .given .0 .0) (w .result .pattern) (m .result) (m .ensures) q
+    (c .before .before .put-refused2 .ensures)
 
 next-at-requires-2 : tie.Need-next-at-requires-2
 next-at-requires-2 c κs =
     let x = c .before .before .before .before .before .before .before .before .before .before .before in
     let n = c .before .before .before .next-at in
-    omega (arith, n .ensures, next-within (now (x .args .input)) (x .args .a) (omega (arith, x .pre .0, next-within (now (x .args .input)) 0 (omega arith) .1)) .1)
+    omega (
+      arith,
+      n .ensures,
+      next-within (now (x .args .input)) (x .args .a)
+          (omega (arith, x .pre .0, next-within (now (x .args .input)) 0 (omega arith) .1)) .1,
+    )
 
 put-refused-requires-3 : tie.Need-put-refused-requires-3
 put-refused-requires-3 c κs =
@@ -76,34 +98,44 @@ returns-3 : tie.Need-returns-3
 returns-3 c =
     let x = c .before .before .before .before .before .before .before .before .before .before .before .before .before .before .before .before .before .before in
     let v = c .before .before .before .before .before .before .before .before .before .before .before .before .before .pattern-at in
-    let u = subst (λ z. ReadAt (now (x .args .input)) (x .args .a) z (v .result .pattern)) (c .before .before .before .before .before .before .before .before .before .before .before .enum-told .given .1) (v .ensures) in
+    let u = subst (λ z. ReadAt (now (x .args .input)) (x .args .a) z (v .result .pattern))
+    (c .before .before .before .before .before .before .before .before .before .before .before .enum-told .given .1) (v .ensures) in
     let n = c .before .before .before .before .before .before .before .before .before .before .next-at in
     let w = c .before .before .before .before .before .before .before .before .before .pattern-at2 in
-    let q = subst (λ z. ReadAt (now (x .args .input)) (n .result) z (w .result .pattern)) (c .before .before .before .before .before .before .before .enum-told2 .given .1) (w .ensures) in
+    let q = subst (λ z. ReadAt (now (x .args .input)) (n .result) z (w .result .pattern))
+    (c .before .before .before .before .before .before .before .enum-told2 .given .1) (w .ensures) in
     let e = c .before .before .before .before .before .before .next-at2 in
-    extra-refused (now (x .args .input)) (x .args .a) (x .pre .0) (x .pre .1 .0) (v .result .pattern) u (n .result) (n .ensures) (w .result .pattern) q (e .result) (e .ensures) (omega arith) (c .before .before .put-refused3 .ensures)
+    extra-refused (now (x .args .input)) (x .args .a) (x .pre .0) (x .pre .1 .0) (v .result .pattern) u (n .result) (n .ensures) (w .result .pattern) q
+    (e .result) (e .ensures) (omega arith) (c .before .before .put-refused3 .ensures)
 
 put-answers-requires : tie.Need-put-answers-requires
 put-answers-requires c κs =
     let x = c .before .before .before .before .before .before .before .before .before .before .before .before .before .before in
     let v = c .before .before .before .before .before .before .before .before .before .pattern-at in
-    let u = subst (λ z. ReadAt (now (x .args .input)) (x .args .a) z (v .result .pattern)) (c .before .before .before .before .before .before .before .enum-told .given .1) (v .ensures) in
+    let u = subst (λ z. ReadAt (now (x .args .input)) (x .args .a) z (v .result .pattern))
+    (c .before .before .before .before .before .before .before .enum-told .given .1) (v .ensures) in
     let n = c .before .before .before .before .before .before .next-at in
     let w = c .before .before .before .before .before .pattern-at2 in
     let q = subst (λ z. ReadAt (now (x .args .input)) (n .result) z (w .result .pattern)) (c .before .before .before .enum-told2 .given .1) (w .ensures) in
-    let d = rules-valid (now (x .args .input)) (record { parents = now (x .args .parents); labels = now (x .args .labels) }) (x .pre .1 .0) (x .pre .1 .1 .0) in
-    (read-valid (now (x .args .input)) (n .result) (w .result .pattern) q, (read-valid (now (x .args .input)) (x .args .a) (v .result .pattern) u, (d, omega (arith, x .pre .1 .1 .1))))
+    let d = rules-valid (now (x .args .input)) (record { parents = now (x .args .parents); labels = now (x .args .labels) }) (x .pre .1 .0) (x .pre .1 .1 .0) in (
+      read-valid (now (x .args .input)) (n .result) (w .result .pattern) q,
+      (read-valid (now (x .args .input)) (x .args .a) (v .result .pattern) u, (d, omega (arith, x .pre .1 .1 .1))),
+    )
 
 returns-4 : tie.Need-returns-4
 returns-4 c =
     let x = c .before .before .before .before .before .before .before .before .before .before .before .before .before .before .before .before .before in
     let v = c .before .before .before .before .before .before .before .before .before .before .before .before .pattern-at in
-    let u = subst (λ z. ReadAt (now (x .args .input)) (x .args .a) z (v .result .pattern)) (c .before .before .before .before .before .before .before .before .before .before .enum-told .given .1) (v .ensures) in
+    let u = subst (λ z. ReadAt (now (x .args .input)) (x .args .a) z (v .result .pattern))
+    (c .before .before .before .before .before .before .before .before .before .before .enum-told .given .1) (v .ensures) in
     let n = c .before .before .before .before .before .before .before .before .before .next-at in
     let w = c .before .before .before .before .before .before .before .before .pattern-at2 in
-    let q = subst (λ z. ReadAt (now (x .args .input)) (n .result) z (w .result .pattern)) (c .before .before .before .before .before .before .enum-told2 .given .1) (w .ensures) in
+    let q = subst (λ z. ReadAt (now (x .args .input)) (n .result) z (w .result .pattern))
+    (c .before .before .before .before .before .before .enum-told2 .given .1) (w .ensures) in
     let e = c .before .before .before .before .before .next-at2 in
-    all-answered (now (x .args .input)) (x .args .a) (x .pre .0) (x .pre .1 .0) (v .result .pattern) u (n .result) (n .ensures) (w .result .pattern) q (e .result) (e .ensures) (record { parents = now (x .args .parents); labels = now (x .args .labels) }) (x .pre .1 .1 .0) (omega arith) (c .before .before .put-answers .ensures)
+    all-answered (now (x .args .input)) (x .args .a) (x .pre .0) (x .pre .1 .0) (v .result .pattern) u (n .result) (n .ensures) (w .result .pattern) q
+    (e .result) (e .ensures) (record { parents = now (x .args .parents); labels = now (x .args .labels) }) (x .pre .1 .1 .0) (omega arith)
+    (c .before .before .put-answers .ensures)
 
 pub past-document-spec : {M : Type 1} → statement M
 past-document-spec = tie.close (tie.spec pattern-at-requires (λ c. search needs) (λ c κs. search needs) (λ c. search needs) put-refused-requires

@@ -14,18 +14,21 @@ abbrev entry : tie.After-find2 → tie.Start
 entry y = y .before .before .before .before .before .before .before .before
 
 -- the view's line fits
-view-short : (y : tie.After-find2) → length (line viewWord (take (y .before .before .before .find .result) (y .before .before .before .find .last .1 .1 .1 .0))) ≤ 10251
+view-short : (y : tie.After-find2) → length (line viewWord (take (y .before .before .before .find .result)
+    (y .before .before .before .find .last .1 .1 .1 .0))) ≤ 10251
 view-short y =
     let x = entry y in
     let f = y .before .before .before .find in
-    found-short (x .args .v) (record { parents = now (x .args .parents); labels = now (x .args .labels) }) (x .pre .1 .0) viewWord (f .result) (f .last .1 .1 .1 .0) (x .pre .1 .1 .0) (f .kept .1 .1 .1 .0) (f .ensures)
+    found-short (x .args .v) (record { parents = now (x .args .parents); labels = now (x .args .labels) }) (x .pre .1 .0) viewWord (f .result)
+    (f .last .1 .1 .1 .0) (x .pre .1 .1 .0) (f .kept .1 .1 .1 .0) (f .ensures)
 
 -- the query's line fits
 query-short : (y : tie.After-find2) → length (line queryWord (take (y .find2 .result) (y .find2 .last .1 .1 .1 .0))) ≤ 10252
 query-short y =
     let x = entry y in
     let f = y .find2 in
-    found-short (x .args .q) (record { parents = now (x .args .parents); labels = now (x .args .labels) }) (x .pre .0) queryWord (f .result) (f .last .1 .1 .1 .0) (x .pre .1 .1 .0) (f .kept .1 .1 .1 .0) (f .ensures)
+    found-short (x .args .q) (record { parents = now (x .args .parents); labels = now (x .args .labels) }) (x .pre .0) queryWord (f .result)
+    (f .last .1 .1 .1 .0) (x .pre .1 .1 .0) (f .kept .1 .1 .1 .0) (f .ensures)
 
 slice-aggregate-seen : tie.Need-slice-aggregate-seen
 slice-aggregate-seen c = found-count (c .before .before .before .before .before .find .ensures)
@@ -51,11 +54,35 @@ put-third-requires c κs =
     let f = c .before .before .before .before .before .before .before .before .before .before .before .before .before .before .before .before .before .find in
     let p = c .before .before .before .before .before .before .before .before .put-line in
     let s = c .before .before .before .put-line2 in
-    let l = lists-start (x .args .v) (record { parents = now (x .args .parents); labels = now (x .args .labels) }) (x .pre .1 .0) (take (f .result) (f .last .1 .1 .1 .0)) (f .ensures .lists) in
-    (x .pre .0, (x .pre .1 .0, (x .pre .1 .1 .0, (l, omega (arith, x .pre .1 .1 .1, p .ensures .end, p .kept .0, s .ensures .end, s .kept .0, view-short y, query-short y)))))
+    let l = lists-start (x .args .v) (record { parents = now (x .args .parents); labels = now (x .args .labels) }) (x .pre .1 .0)
+    (take (f .result) (f .last .1 .1 .1 .0)) (f .ensures .lists) in (
+      x .pre .0,
+      (
+        x .pre .1 .0,
+        (
+          x .pre .1 .1 .0,
+          (
+            l,
+            omega (
+              arith,
+              x .pre .1 .1 .1,
+              p .ensures .end,
+              p .kept .0,
+              s .ensures .end,
+              s .kept .0,
+              view-short y,
+              query-short y,
+            ),
+          ),
+        ),
+      ),
+    )
 
 returns : tie.Need-returns
-returns c = answers-put (c .before .before .before .before .before .before .before .before .before .before .before .before .before .before .before .before .before .before .before .before .find .ensures .lists) (c .before .before .before .before .before .before .before .before .before .before .before .before .before .before .before .before .before .find2 .ensures .lists) (c .before .before .before .before .before .before .before .before .before .before .before .put-line .ensures) (c .before .before .before .before .before .before .put-line2 .ensures) (c .before .before .put-third .ensures)
+returns c = answers-put (c .before .before .before .before .before .before .before .before .before .before .before .before .before .before .before .before
+    .before .before .before .before .find .ensures .lists) (c .before .before .before .before .before .before .before .before .before .before .before .before
+    .before .before .before .before .before .find2 .ensures .lists) (c .before .before .before .before .before .before .before .before .before .before .before
+    .put-line .ensures) (c .before .before .before .before .before .before .put-line2 .ensures) (c .before .before .put-third .ensures)
 
 pub put-answers-spec : {M : Type 1} → statement M
 put-answers-spec = tie.close (tie.spec (λ c. search needs) (λ c κs. search needs) (λ c. search needs) (λ c κs. search needs) (λ c. search needs)

@@ -22,12 +22,14 @@ abbrev entry : tie.After-n → tie.Start
 entry y = y .before .before .before .before .before .before .before .before .before .before .before
 
 -- where they are counted, the document packet is read
-read : (y : tie.After-n) → DocumentRead (now (entry y .args .input)) (Count (y .n .given .0 .0)) (y .before .before .before .before .read-document .last .1 .0) (y .before .before .before .before .read-document .last .1 .1 .0)
+read : (y : tie.After-n) → DocumentRead (now (entry y .args .input)) (Count (y .n .given .0 .0))
+    (y .before .before .before .before .read-document .last .1 .0) (y .before .before .before .before .read-document .last .1 .1 .0)
 read y =
     let a = y .before .before .before .before .before .before .before .before .next-at in
     let d = y .before .before .before .before .read-document in
     document-read (now (entry y .args .input)) (a .result) (Count (y .n .given .0 .0)) (d .last .1 .0) (d .last .1 .1 .0) (a .ensures)
-    (subst (λ r. ReadsDocument (take (a .result) (now (entry y .args .input))) (replicate 2048 0) (replicate 2048 0) r (d .last .1 .0) (d .last .1 .1 .0)) (y .n .given .1) (d .ensures))
+    (subst (λ r. ReadsDocument (take (a .result) (now (entry y .args .input))) (replicate 2048 0) (replicate 2048 0) r (d .last .1 .0) (d .last .1 .1 .0))
+    (y .n .given .1) (d .ensures))
 
 -- so they are at most 2,048
 few : (y : tie.After-n) → y .n .given .0 .0 ≤ 2048
@@ -80,9 +82,11 @@ returns c =
     let d = c .before .before .before .before .before .before .before .before .before .before .before .read-document in
     let m = c .before .before .before .before .number-of in
     let r = c .before .before .before .before .before .before .before .r in
-    let h = subst (λ z. ReadsDocument (take (a .result) (now (x .args .input))) (replicate 2048 0) (replicate 2048 0) z (d .last .1 .0) (d .last .1 .1 .0)) (r .given .1) (d .ensures) in
+    let h = subst (λ z. ReadsDocument (take (a .result) (now (x .args .input))) (replicate 2048 0) (replicate 2048 0) z (d .last .1 .0) (d .last .1 .1 .0))
+    (r .given .1) (d .ensures) in
     let z = document-read (now (x .args .input)) (a .result) (Refused (r .given .0 .0)) (d .last .1 .0) (d .last .1 .1 .0) (a .ensures) h in
-    document-refused (now (x .args .input)) (r .given .0 .0) (d .last .1 .0) (d .last .1 .1 .0) (m .result) (m .ensures) z (c .before .before .put-refused .ensures)
+    document-refused (now (x .args .input)) (r .given .0 .0) (d .last .1 .0) (d .last .1 .1 .0) (m .result) (m .ensures) z
+    (c .before .before .put-refused .ensures)
 
 returns-2 : tie.Need-returns-2
 returns-2 c = search needs

@@ -19,7 +19,12 @@ put-line-requires : tie.Need-put-line-requires
 put-line-requires c κs =
     let x = c .before .before .before .before .before .before .before .before .before .before in
     let f = c .before .before .before .before .find-started in
-    omega (arith, x .pre .1 .1 .1 .1, found-short (x .args .e) (record { parents = now (x .args .parents); labels = now (x .args .labels) }) (x .pre .0) rewritingWord (f .result) (f .last .1 .1 .1 .1 .0) (x .pre .1 .0) (f .kept .1 .1 .1 .1 .0) (f .ensures))
+    omega (
+      arith,
+      x .pre .1 .1 .1 .1,
+      found-short (x .args .e) (record { parents = now (x .args .parents); labels = now (x .args .labels) }) (x .pre .0)
+          rewritingWord (f .result) (f .last .1 .1 .1 .1 .0) (x .pre .1 .0) (f .kept .1 .1 .1 .1 .0) (f .ensures),
+    )
 
 returns : tie.Need-returns
 returns c = search needs

@@ -27,7 +27,8 @@ returns : tie.Need-returns
 returns c =
     let x = c .before .before .before .before .before .before .before .before .before .before .before in
     let w = c .before .before .before .before .before .before .rewrite in
-    let h = subst (λ a. AnswersRewriting (x .args .q) (x .args .v) a (w .result .pattern)) (c .before .before .before .before .enum-told .given .1) (w .ensures) in
+    let h = subst (λ a. AnswersRewriting (x .args .q) (x .args .v) a (w .result .pattern)) (c .before .before .before .before .enum-told .given .1)
+    (w .ensures) in
     let l = c .before .before .put-started .ensures in
     record { text = line rewritingWord (l .answers); third = handed (w .result .pattern) (l .answers) h (l .lists) refl; wrote = l .wrote }
 
@@ -36,15 +37,18 @@ unfolding noneLine
 returns-2 c =
     let x = c .before .before .before .before .before .before .before .before .before .before .before .before in
     let w = c .before .before .before .before .before .before .before .rewrite in
-    let h = subst (λ a. AnswersRewriting (x .args .q) (x .args .v) a (w .result .pattern)) (c .before .before .before .before .before .enum-told2 .given .1) (w .ensures) in
+    let h = subst (λ a. AnswersRewriting (x .args .q) (x .args .v) a (w .result .pattern)) (c .before .before .before .before .before .enum-told2 .given .1)
+    (w .ensures) in
     record { text = noneLine; third = none (h .0, h .1, refl) refl; wrote = c .before .before .put-word .ensures }
 
 returns-3 : tie.Need-returns-3
 returns-3 c =
     let x = c .before .before .before .before .before .before .before .before .before .before .before .before in
     let w = c .before .before .before .before .before .before .before .rewrite in
-    let h = subst (λ a. AnswersRewriting (x .args .q) (x .args .v) a (w .result .pattern)) (c .before .before .before .before .before .enum-told3 .given .1) (w .ensures) in
-    let z = refused-large (x .args .q) (x .args .v) (w .result .pattern) (c .before .before .before .before .before .enum-told3 .given .0 .0) (x .pre .0) (x .pre .1 .0) h in
+    let h = subst (λ a. AnswersRewriting (x .args .q) (x .args .v) a (w .result .pattern)) (c .before .before .before .before .before .enum-told3 .given .1)
+    (w .ensures) in
+    let z = refused-large (x .args .q) (x .args .v) (w .result .pattern) (c .before .before .before .before .before .enum-told3 .given .0 .0) (x .pre .0)
+    (x .pre .1 .0) h in
     record { text = refusedLine 8 rewritingWord; third = refused z refl; wrote = c .before .before .put-refused .ensures }
 
 pub put-third-spec : {M : Type 1} → statement M

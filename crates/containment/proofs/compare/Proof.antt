@@ -11,17 +11,20 @@ use Rattle.containment.proofs.compare.Tie as tie
 -- the step picked is the smallest that may take step 0
 picks : (c : tie.After-first-image)
     → let s = c .before .before .before .before .before .before in
-    Picks (λ j. BeginsIn (shapeOf (s .args .t2)) (shapeOf (s .args .t1)) j × FitsIn (shapeOf (s .args .t2)) (shapeOf (s .args .t1)) j 0) (c .first-image .result)
+    Picks (λ j. BeginsIn (shapeOf (s .args .t2)) (shapeOf (s .args .t1)) j × FitsIn (shapeOf (s .args .t2)) (shapeOf (s .args .t1)) j 0)
+    (c .first-image .result)
 picks c =
     let s = c .before .before .before .before .before .before in
-    first-picked (shapeOf (s .args .t1)) (shapeOf (s .args .t2)) (s .pre .0) (s .pre .1) (c .before .before .before .before .lift .last .1 .1 .0) _ (c .before .before .before .before .lift .ensures) (c .first-image .ensures)
+    first-picked (shapeOf (s .args .t1)) (shapeOf (s .args .t2)) (s .pre .0) (s .pre .1) (c .before .before .before .before .lift .last .1 .1 .0) _
+    (c .before .before .before .before .lift .ensures) (c .first-image .ensures)
 
 returns : tie.Need-returns
 returns c =
     let g = c .before .before in
     let s = g .before .before .before .before .before .before in
     let u = c .unmapped .ensures in
-    told-apart (s .args .t1) (s .args .t2) (c .unmapped .result) (s .pre .0) (s .pre .1) (u .0) (u .1) (not-contained _ _ (s .pre .0) (s .pre .1) _ (c .before .if1 .taken) (picks g))
+    told-apart (s .args .t1) (s .args .t2) (c .unmapped .result) (s .pre .0) (s .pre .1) (u .0) (u .1)
+    (not-contained _ _ (s .pre .0) (s .pre .1) _ (c .before .if1 .taken) (picks g))
 
 choose-requires : tie.Need-choose-requires
 choose-requires c κs =

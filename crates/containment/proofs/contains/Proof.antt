@@ -33,7 +33,8 @@ module _ (A B : Pattern) (m : List StepNo) where
   passes (verdict.Refused r) h t = absurd (⊎-elim (λ e. omega arith) (λ e. omega arith) t)
 
   -- one that does not say contained either says apart
-  apart : (v : Verdict) → AnswersVerdict A B v m → Passes (pairChecks A B) → (tagOf the-type v ≡ 1) ⊎ (tagOf the-type v ≡ 2) → Contained (shapeOf A) (shapeOf B) → ⊥
+  apart : (v : Verdict) → AnswersVerdict A B v m → Passes (pairChecks A B) → (tagOf the-type v ≡ 1) ⊎ (tagOf the-type v ≡ 2) → Contained (shapeOf A)
+      (shapeOf B) → ⊥
   apart verdict.Contained h p t = absurd (⊎-elim (λ e. omega arith) (λ e. omega arith) t)
   apart verdict.Apart h p t = h .1
   apart (verdict.Refused r) h p t = absurd (refuses-not-passes (pairChecks A B) r (h .0) p)
@@ -43,11 +44,13 @@ sound : (c : tie.At-match-keys2) → Passes (pairChecks (c .before .before .befo
 sound c = passes _ _ _ (c .before .decide .result .answer) (c .before .decide .ensures) (c .match .keys2)
 
 -- past the second a label is free
-free : (c : tie.Else1) → Fresh (shapeOf (c .before .before .before .before .before .before .args .a)) (shapeOf (c .before .before .before .before .before .before .args .b)) (c .before .fresh .result)
+free : (c : tie.Else1) → Fresh (shapeOf (c .before .before .before .before .before .before .args .a))
+    (shapeOf (c .before .before .before .before .before .before .args .b)) (c .before .fresh .result)
 free c = fresh-of _ _ (c .before .fresh .result) (c .if1 .left) (c .before .fresh .ensures)
 
 -- the sum is the size of the witness
-size : (c : tie.After-descendants-before) → c .before .before .before .before .before .before .before .args .a .count + c .descendants-before .result ≡ witnessSize (shapeOf (c .before .before .before .before .before .before .before .args .a))
+size : (c : tie.After-descendants-before) → c .before .before .before .before .before .before .before .args .a .count + c .descendants-before .result ≡
+    witnessSize (shapeOf (c .before .before .before .before .before .before .before .args .a))
 size c = rw (c .descendants-before .ensures)
 
 -- past the fourth both lists have room for it
@@ -73,7 +76,13 @@ returns-2 c =
     let a = c .before .before .before .before .before .before .before .args in
     let k = c .before .before .before in
     let u = c .plain2 .ensures in
-    rw (u .0) (label-refuses (a .a) (a .b) (length (now (a .parents))) (length (now (a .labels))) (sound k) (fresh-none (shapeOf (a .a)) (shapeOf (a .b)) _ (c .before .if1 .taken) (c .before .before .fresh .ensures)), u .1, refl, refl)
+    rw (u .0) (
+      label-refuses (a .a) (a .b) (length (now (a .parents))) (length (now (a .labels))) (sound k)
+          (fresh-none (shapeOf (a .a)) (shapeOf (a .b)) _ (c .before .if1 .taken) (c .before .before .fresh .ensures)),
+      u .1,
+      refl,
+      refl,
+    )
 
 descendants-before-requires : tie.Need-descendants-before-requires
 descendants-before-requires c κs = (sound (c .before .before) .0, omega arith)
@@ -86,14 +95,26 @@ returns-3 c =
     let a = c .before .before .before .before .before .before .before .before .before .before .args in
     let d = c .before .before .before in
     let u = c .plain3 .ensures in
-    rw (u .0) (room-refuses (a .a) (a .b) (length (now (a .parents))) (length (now (a .labels))) (sound (d .before .before .before)) _ (free (d .before)) (λ w. omega (arith, w .0, c .before .if2 .taken, size d)), u .1, refl, refl)
+    rw (u .0) (
+      room-refuses (a .a) (a .b) (length (now (a .parents))) (length (now (a .labels))) (sound (d .before .before .before)) _ (free (d .before))
+          (λ w. omega (arith, w .0, c .before .if2 .taken, size d)),
+      u .1,
+      refl,
+      refl,
+    )
 
 returns-4 : tie.Need-returns-4
 returns-4 c =
     let a = c .before .before .before .before .before .before .before .before .before .before .before .args in
     let d = c .before .before .before .before in
     let u = c .plain4 .ensures in
-    rw (u .0) (room-refuses (a .a) (a .b) (length (now (a .parents))) (length (now (a .labels))) (sound (d .before .before .before)) _ (free (d .before)) (λ w. omega (arith, w .1, c .before .if3 .taken, size d)), u .1, refl, refl)
+    rw (u .0) (
+      room-refuses (a .a) (a .b) (length (now (a .parents))) (length (now (a .labels))) (sound (d .before .before .before)) _ (free (d .before))
+          (λ w. omega (arith, w .1, c .before .if3 .taken, size d)),
+      u .1,
+      refl,
+      refl,
+    )
 
 returns-5 : tie.Need-returns-5
 returns-5 c =
@@ -101,9 +122,15 @@ returns-5 c =
     let d = c .before .before .before .before .before .before in
     let k = d .before .before .before .before in
     let s = k .before .before .before in
-    let h = subst (λ (v : Verdict). AnswersVerdict (s .args .a) (s .args .b) v (k .decide .result .mapping)) (c .before .enum-told .given .1) (k .decide .ensures) in
-    let r = room (c .before .before .before) in
-    (all-pass (a .a) (a .b) (length (now (a .parents))) (length (now (a .labels))) (sound (d .before .before .before)) _ (free (d .before)) (r .0) (r .1), h .1, refl, refl)
+    let h = subst (λ (v : Verdict). AnswersVerdict (s .args .a) (s .args .b) v (k .decide .result .mapping)) (c .before .enum-told .given .1)
+    (k .decide .ensures) in
+    let r = room (c .before .before .before) in (
+      all-pass (a .a) (a .b) (length (now (a .parents))) (length (now (a .labels))) (sound (d .before .before .before)) _ (free (d .before)) (r .0) (r .1),
+      h
+          .1,
+      refl,
+      refl,
+    )
 
 write-witness-requires : tie.Need-write-witness-requires
 write-witness-requires c κs =
@@ -111,11 +138,13 @@ write-witness-requires c κs =
     (sound (c .before .before .before .before .before .before .before .before .before) .0, r .0, r .1)
 
 own-node-requires : tie.Need-own-node-requires
-own-node-requires c κs = let v = sound (c .before .before .before .before .before .before .before .before .before .before .before .before .before .before .before) .0 in (v, v .output)
+own-node-requires c κs = let v = sound (c .before .before .before .before .before .before .before .before .before .before .before .before .before .before
+    .before) .0 in (v, v .output)
 
 returns-6 : tie.Need-returns-6
 returns-6 c =
-    let a = c .before .before .before .before .before .before .before .before .before .before .before .before .before .before .before .before .before .before .before .before .before .args in
+    let a = c .before .before .before .before .before .before .before .before .before .before .before .before .before .before .before .before .before .before
+    .before .before .before .args in
     let e = c .before .before .before .before .before .before .before .before .before .before .before in
     let d = e .before .before .before in
     let k = d .before .before .before .before in
@@ -127,7 +156,8 @@ returns-6 c =
     rw (u .0) (
       all-pass (a .a) (a .b) (length (now (a .parents))) (length (now (a .labels))) p _ f (r .0) (r .1),
       record {
-        not-contained = apart (a .a) (a .b) _ (k .decide .result .answer) (k .decide .ensures) p (c .before .before .before .before .before .before .before .before .before .before .match2 .keys2);
+        not-contained = apart (a .a) (a .b) _ (k .decide .result .answer) (k .decide .ensures) p
+            (c .before .before .before .before .before .before .before .before .before .before .match2 .keys2);
         label = d .before .before .fresh .result;
         fresh = f;
         count = w .0;

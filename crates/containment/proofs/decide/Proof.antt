@@ -17,14 +17,22 @@ returns c =
     let k = c .before .before .before .before in
     let a = k .before .args in
     let u = c .unmapped .ensures in
-    rw (u .0) (first-refused (a .a) (a .b) (c .before .before .r .given .0 .0) (subst (ChecksPattern (a .a)) (c .before .before .r .given .1) (k .check-pattern .ensures)), u .1)
+    rw (u .0) (
+      first-refused (a .a) (a .b) (c .before .before .r .given .0 .0)
+          (subst (ChecksPattern (a .a)) (c .before .before .r .given .1) (k .check-pattern .ensures)),
+      u .1,
+    )
 
 returns-2 : tie.Need-returns-2
 returns-2 c =
     let k = c .before .before .before .before in
     let a = k .before .before .before .before .args in
     let u = c .unmapped2 .ensures in
-    rw (u .0) (second-refused (a .a) (a .b) (c .before .before .r2 .given .0 .0) (valid (k .before)) (subst (ChecksPattern (a .b)) (c .before .before .r2 .given .1) (k .check-pattern2 .ensures)), u .1)
+    rw (u .0) (
+      second-refused (a .a) (a .b) (c .before .before .r2 .given .0 .0) (valid (k .before))
+          (subst (ChecksPattern (a .b)) (c .before .before .r2 .given .1) (k .check-pattern2 .ensures)),
+      u .1,
+    )
 
 compare-requires : tie.Need-compare-requires
 compare-requires c κs =

@@ -16,17 +16,20 @@ valid x = subst (ChecksPattern (x .before .before .before .args .a)) (x .enum-to
 
 -- past the second the second does
 valid-2 : (x : tie.After-enum-told2) → ValidPattern (x .before .before .before .before .before .before .args .b)
-valid-2 x = subst (ChecksPattern (x .before .before .before .before .before .before .args .b)) (x .enum-told2 .given .1) (x .before .before .check-pattern2 .ensures) .0 .0
+valid-2 x = subst (ChecksPattern (x .before .before .before .before .before .before .args .b)) (x .enum-told2 .given .1)
+    (x .before .before .check-pattern2 .ensures) .0 .0
 
 returns : tie.Need-returns
 returns c =
     let a = c .before .before .before .before .args in
-    first-refused (a .a) (a .b) (c .before .r .given .0 .0) (subst (ChecksPattern (a .a)) (c .before .r .given .1) (c .before .before .before .check-pattern .ensures))
+    first-refused (a .a) (a .b) (c .before .r .given .0 .0) (subst (ChecksPattern (a .a)) (c .before .r .given .1)
+    (c .before .before .before .check-pattern .ensures))
 
 returns-2 : tie.Need-returns-2
 returns-2 c =
     let a = c .before .before .before .before .before .before .before .args in
-    second-refused (a .a) (a .b) (c .before .r2 .given .0 .0) (valid (c .before .before .before .before)) (subst (ChecksPattern (a .b)) (c .before .r2 .given .1) (c .before .before .before .check-pattern2 .ensures))
+    second-refused (a .a) (a .b) (c .before .r2 .given .0 .0) (valid (c .before .before .before .before))
+    (subst (ChecksPattern (a .b)) (c .before .r2 .given .1) (c .before .before .before .check-pattern2 .ensures))
 
 within-requires : tie.Need-within-requires
 within-requires c κs = (valid (c .before .before .before), valid-2 c)
@@ -46,8 +49,11 @@ returns-4 : tie.Need-returns-4
 returns-4 c =
     let a = c .before .before .before .before .before .before .before .before .before .before .args in
     let w = c .before .within2 in
-    let back : Contained (shapeOf (a .b)) (shapeOf (a .a)) → T (w .result) = w .ensures .1 in
-    ((valid (c .before .before .before .before .before .before .before), (valid-2 (c .before .before .before .before), tt)), λ e. failed (w .result) (c .if2 .taken) (back (e .back)))
+    let back : Contained (shapeOf (a .b)) (shapeOf (a .a)) → T (w .result) = w .ensures .1 in (
+      (valid (c .before .before .before .before .before .before .before), (valid-2 (c .before .before .before .before), tt)),
+      λ e. failed (w .result)
+          (c .if2 .taken) (back (e .back)),
+    )
 
 returns-5 : tie.Need-returns-5
 returns-5 c =

@@ -46,7 +46,8 @@ labels-again c =
       omega arith,
       below-more (λ (k : ℕ). 1 ≤ k → Stands _ k ⊎ Stands _ k) (l .l + 1) (l .inv .1)
           (λ z. ⊎-elim
-          (λ t. ⊎-elim (λ f. absurd (none-marked 256 (l .l + 1) (omega arith) f)) inl (c .before .before .before .before .before .before .mark-labels .ensures (l .l + 1) t))
+          (λ t. ⊎-elim (λ f. absurd (none-marked 256 (l .l + 1) (omega arith) f)) inl
+          (c .before .before .before .before .before .before .mark-labels .ensures (l .l + 1) t))
           inr
           (c .before .before .before .before .mark-labels2 .ensures (l .l + 1) (subst T (sym (c .if3 .taken)) tt))),
     )

@@ -25,7 +25,8 @@ view x = subst (ChecksPattern (x .before .before .before .args .t1)) (x .enum-to
 
 -- and past the second the compensation
 tail : (x : tie.After-enum-told2) → ValidPattern (x .before .before .before .before .before .before .args .t2)
-tail x = subst (ChecksPattern (x .before .before .before .before .before .before .args .t2)) (x .enum-told2 .given .1) (x .before .before .check-pattern2 .ensures) .0 .0
+tail x = subst (ChecksPattern (x .before .before .before .before .before .before .args .t2)) (x .enum-told2 .given .1)
+    (x .before .before .check-pattern2 .ensures) .0 .0
 
 returns : tie.Need-returns
 returns c =
@@ -46,7 +47,8 @@ returns-3 : tie.Need-returns-3
 returns-3 c =
     let x = c .before .before .before in
     let a = x .before .before .before .before .before .before .args in
-    refuse (a .t1) (a .t2) Start (c .refused3 .result) (c .refused3 .ensures) (inr (view (x .before .before .before), inr (tail x, inl (λ e. omega arith, refl))))
+    refuse (a .t1) (a .t2) Start (c .refused3 .result) (c .refused3 .ensures)
+    (inr (view (x .before .before .before), inr (tail x, inl (λ e. omega arith, refl))))
 
 element-copy-out-if2 : tie.Need-element-copy-out-if2
 element-copy-out-if2 c = omega (arith, view (c .before .before .before .before .before) .output, view (c .before .before .before .before .before) .few)

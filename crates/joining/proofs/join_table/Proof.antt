@@ -94,7 +94,8 @@ loop3-again c =
     let s : ℕ = m .loop3 .u - e in
     let q : ℕ = getD (v .parent) s 0 in
     let l = m .loop3 .inv .0 in
-    let z : c .before .before .if1 .q ≡ renumber o e q = ⊎-elim (λ w. omega (arith, renumber-high o e q (omega arith))) (λ w. omega (arith, renumber-low o e q (omega arith))) (c .before .before .if1 .came) in (
+    let z : c .before .before .if1 .q ≡ renumber o e q = ⊎-elim (λ w. omega (arith, renumber-high o e q (omega arith)))
+    (λ w. omega (arith, renumber-low o e q (omega arith))) (c .before .before .if1 .came) in (
       omega arith,
       filled-next (c .before .before .if1 .q) (getD (v .axis) s 0) (getD (v .label) s 0) (m .loop3 .inv .1) (omega arith)
           (z ∙ sym (part-rest _ _ _ _ _ _ l)) (sym (part-rest _ _ _ _ _ _ l)) (sym (part-rest _ _ _ _ _ _ l)),

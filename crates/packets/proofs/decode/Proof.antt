@@ -28,7 +28,8 @@ loop-again c =
     let x = c .before .before .before .before .before .args in (
       omega arith,
       simp length-set (v .1),
-      rw (v .2) (column-next (λ i. half (now (x .s)) (x .o + 4 * i)) (now (x .dst)) (c .before .before .loop .k) (c .half-at .result) (omega arith) (c .half-at .ensures)),
+      rw (v .2) (column-next (λ i. half (now (x .s)) (x .o + 4 * i)) (now (x .dst)) (c .before .before .loop .k) (c .half-at .result) (omega arith)
+          (c .half-at .ensures)),
     )
 
 returns : tie.Need-returns Inv-loop μ-loop

@@ -53,7 +53,8 @@ returns c =
     let l = c .before .loop in
     let bs = now (c .before .before .before .before .args .s) in
     let e : l .k ≡ half bs 1 / 4 = omega arith in
-    pattern-ext (l .p) (patternOf (packetShape bs)) (omega arith) (l .inv .output) (rw e at (l .inv .parents)) (rw e at (l .inv .axes)) (rw e at (l .inv .labels))
+    pattern-ext (l .p) (patternOf (packetShape bs)) (omega arith) (l .inv .output) (rw e at (l .inv .parents)) (rw e at (l .inv .axes))
+    (rw e at (l .inv .labels))
 
 pub pattern-in-spec : {M : Type 1} → statement M
 pattern-in-spec = tie.close (tie.spec Inv-loop μ-loop (λ c. omega arith) loop-holds (λ c. omega arith) (λ c. omega arith) (λ c. omega arith)

@@ -10,7 +10,15 @@ use Rattle.tables.specs.Document.{ValidDocument}
 use Rattle.tables.specs.Refusal.{Passes}
 use Rattle.tables.specs.declared.Counted.the-variants.{Count}
 use Rattle.packets.specs.DocumentPacket.{packetDocument, documentChecks, documentRules, ReadsNodes}
-use Rattle.packets.proofs.Reading.{document-fronts, nodes-refused, nodes-headed, headed-few, document-rules-refuse, document-room-refuses, document-passes}
+use Rattle.packets.proofs.Reading.{
+  document-fronts,
+  nodes-refused,
+  nodes-headed,
+  headed-few,
+  document-rules-refuse,
+  document-room-refuses,
+  document-passes,
+}
 use borrow.Author.Needs.{needs}
 use Rattle.packets.proofs.read_document.Statement.{statement}
 use Rattle.packets.proofs.read_document.Tie as tie
@@ -30,7 +38,8 @@ labels x = x .before .before .before .before .read-nodes .last .1 .1 .0
 
 -- where the nodes are counted they stand in these lists
 nodes : (x : tie.After-n) → ReadsNodes (bytes x) (replicate 2048 0) (replicate 2048 0) (Count (x .n .given .0 .0)) (parents x) (labels x)
-nodes x = subst (λ r. ReadsNodes (bytes x) (replicate 2048 0) (replicate 2048 0) r (parents x) (labels x)) (x .n .given .1) (x .before .before .before .before .read-nodes .ensures)
+nodes x = subst (λ r. ReadsNodes (bytes x) (replicate 2048 0) (replicate 2048 0) r (parents x) (labels x)) (x .n .given .1)
+    (x .before .before .before .before .read-nodes .ensures)
 
 header : (x : tie.After-n) → Passes (take 3 (documentRules (bytes x)))
 header x = nodes-headed (bytes x) _ _ (nodes x .0)
@@ -55,21 +64,35 @@ returns : tie.Need-returns
 returns c =
     let d = c .before .before .before .before .before .read-nodes in
     let a = c .before .before .before .before .before .before .before .before .before .before .before .args in
-    let h = subst (λ r. ReadsNodes (now (a .s)) (replicate 2048 0) (replicate 2048 0) r (d .last .1 .0) (d .last .1 .1 .0)) (c .before .r .given .1) (d .ensures) in
-    let l = length-replicate {A = ℕ} 2048 0 in
-    (nodes-refused (now (a .s)) _ _ (omega (arith, l)) (omega (arith, l)) (drop 3 (documentChecks (now (a .s)) (length (now (a .parents))) (length (now (a .labels))))) (c .before .r .given .0 .0) (h .0), (refl, refl))
+    let h = subst (λ r. ReadsNodes (now (a .s)) (replicate 2048 0) (replicate 2048 0) r (d .last .1 .0) (d .last .1 .1 .0)) (c .before .r .given .1)
+    (d .ensures) in
+    let l = length-replicate {A = ℕ} 2048 0 in (
+      nodes-refused (now (a .s)) _ _ (omega (arith, l)) (omega (arith, l))
+          (drop 3 (documentChecks (now (a .s)) (length (now (a .parents))) (length (now (a .labels))))) (c .before .r .given .0 .0) (h .0),
+      (refl, refl),
+    )
 
 array-share-prefix-own-parents : tie.Need-array-share-prefix-own-parents
 array-share-prefix-own-parents c = omega (arith, few (c .before), c .before .before .before .before .before .read-nodes .kept)
 
 slice-aggregate-check-document : tie.Need-slice-aggregate-check-document
-slice-aggregate-check-document c = simp length-take (omega (arith, few (c .before .before), c .before .before .before .before .before .before .read-nodes .kept))
+slice-aggregate-check-document c = simp length-take (omega (
+  arith,
+  few (c .before .before),
+  c .before .before .before .before .before .before .read-nodes
+      .kept,
+))
 
 array-share-prefix-own-labels : tie.Need-array-share-prefix-own-labels
 array-share-prefix-own-labels c = omega (arith, few (c .before .before), c .before .before .before .before .before .before .read-nodes .kept)
 
 slice-aggregate-check-document-2 : tie.Need-slice-aggregate-check-document-2
-slice-aggregate-check-document-2 c = simp length-take (omega (arith, few (c .before .before .before), c .before .before .before .before .before .before .before .read-nodes .kept))
+slice-aggregate-check-document-2 c = simp length-take (omega (
+  arith,
+  few (c .before .before .before),
+  c .before .before .before .before .before .before
+      .before .read-nodes .kept,
+))
 
 returns-2 : tie.Need-returns-2
 returns-2 c =
@@ -107,9 +130,12 @@ returns-5 c =
     let n = x .n .given .0 .0 in
     let p = now (entry x .args .parents) in
     let l = now (entry x .args .labels) in
-    let e : c .before .before .before .before .before .before .before .copy .last .1 .1 .0 ≡ take n (parents x) ++ drop n p = c .before .before .before .before .before .before .before .copy .ensures in
+    let e : c .before .before .before .before .before .before .before .copy .last .1 .1 .0 ≡ take n (parents x) ++ drop n p = c .before .before .before
+    .before .before .before .before .copy .ensures in
     let f : c .before .before .copy2 .last .1 .1 .0 ≡ take n (labels x) ++ drop n l = c .before .before .copy2 .ensures in (
-      document-passes (bytes x) (length p) (length l) (header x) (valid y) (omega (arith, nodes x .1 .0, c .before .before .before .before .before .before .before .before .before .before .before .if1 .left)) (omega (arith, nodes x .1 .0, c .before .before .before .before .before .before .before .before .before .before .if2 .left)),
+      document-passes (bytes x) (length p) (length l) (header x) (valid y)
+          (omega (arith, nodes x .1 .0, c .before .before .before .before .before .before .before .before .before .before .before .if1 .left))
+          (omega (arith, nodes x .1 .0, c .before .before .before .before .before .before .before .before .before .before .if2 .left)),
       (
         nodes x .1 .0,
         e ∙ ap (λ d. d .parents ++ drop n p) (fronts x),

@@ -43,8 +43,11 @@ returns-3 c =
     let k = y .before .before in
     let q = k .before in
     let x = q .before .before in
-    let v = subst (ChecksPattern (q .pattern-in .result)) (y .r2 .given .1) (k .check-pattern .ensures) in
-    (pattern-rules-refuse (now (entry x .args .s)) (q .pattern-in .result) (q .pattern-in .ensures) (headed x .0) (y .r2 .given .0 .0) (v .0), c .no-pattern2 .ensures)
+    let v = subst (ChecksPattern (q .pattern-in .result)) (y .r2 .given .1) (k .check-pattern .ensures) in (
+      pattern-rules-refuse (now (entry x .args .s)) (q .pattern-in .result) (q .pattern-in .ensures) (headed x .0) (y .r2 .given .0 .0) (v .0),
+      c .no-pattern2
+          .ensures,
+    )
 
 pub read-pattern-spec : {M : Type 1} → statement M
 read-pattern-spec = tie.close (tie.spec (λ c κs. search needs) (λ c. search needs) (λ c. search needs) (λ c κs. search needs) returns

@@ -34,7 +34,19 @@ returns-6 : tie.Need-returns-6
 returns-6 c = unsized (omega arith) (omega arith) (λ z. omega arith)
 
 returns-7 : tie.Need-returns-7
-returns-7 c = ((omega arith, (omega arith, ((c .before .before .before .before .half-at .result / 4, omega arith, omega arith, omega arith, omega arith), tt))), omega arith)
+returns-7 c = (
+  (
+    omega arith,
+    (
+      omega arith,
+      (
+        (c .before .before .before .before .half-at .result / 4, omega arith, omega arith, omega arith, omega arith),
+        tt,
+      ),
+    ),
+  ),
+  omega arith,
+)
 
 pub rows-in-spec : {M : Type 1} → statement M
 rows-in-spec = tie.close (tie.spec returns (λ c. search needs) returns-2 (λ c κs. search needs) (λ c. search needs) returns-3 returns-4 returns-5

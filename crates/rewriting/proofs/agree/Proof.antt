@@ -35,11 +35,15 @@ view-few x = let p = x .before .before .before .before .pre .0 in omega (arith, 
 
 -- and of their parents
 up : (x : tie.In-loop Inv-loop μ-loop)
-    → Level (shapeOf (x .before .before .before .before .before .args .t1)) (shapeOf (x .before .before .before .before .before .args .t2)) (getD (x .before .before .before .before .before .args .t1 .parent) (x .before .loop .s) 0) (getD (x .before .before .before .before .before .args .t2 .parent) (x .before .loop .t) 0)
-up x = level-up (x .before .before .before .before .before .pre .0 .0) (x .before .before .before .before .before .pre .0 .1) (x .before .loop .inv) (x .loop-test .taken) .1
+    → Level (shapeOf (x .before .before .before .before .before .args .t1)) (shapeOf (x .before .before .before .before .before .args .t2))
+    (getD (x .before .before .before .before .before .args .t1 .parent) (x .before .loop .s) 0)
+    (getD (x .before .before .before .before .before .args .t2 .parent) (x .before .loop .t) 0)
+up x = level-up (x .before .before .before .before .before .pre .0 .0) (x .before .before .before .before .before .pre .0 .1) (x .before .loop .inv)
+    (x .loop-test .taken) .1
 
 up-less : (x : tie.In-loop Inv-loop μ-loop) → getD (x .before .before .before .before .before .args .t2 .parent) (x .before .loop .t) 0 < x .before .loop .t
-up-less x = level-up (x .before .before .before .before .before .pre .0 .0) (x .before .before .before .before .before .pre .0 .1) (x .before .loop .inv) (x .loop-test .taken) .0
+up-less x = level-up (x .before .before .before .before .before .pre .0 .0) (x .before .before .before .before .before .pre .0 .1) (x .before .loop .inv)
+    (x .loop-test .taken) .0
 
 up-query : (x : tie.In-loop Inv-loop μ-loop) → getD (x .before .before .before .before .before .args .t1 .parent) (x .before .loop .s) 0 < 64
 up-query x = let p = x .before .before .before .before .before .pre .0 in omega (arith, query-here (p .0) (p .1) (up x), p .0 .few)
@@ -72,7 +76,11 @@ element-copy-out-if2-2 : tie.Need-element-copy-out-if2-2 Inv-loop μ-loop
 element-copy-out-if2-2 c = view-few (c .before .before)
 
 returns-2 : tie.Need-returns-2 Inv-loop μ-loop
-returns-2 c = let x = c .before .before .before .before in (λ z. absurd z, λ E w. c .if2 .taken (axes-agree _ _ E (x .before .before .before .before .pre .0 .0) (x .before .before .before .before .pre .0 .1) w (x .loop .inv)))
+returns-2 c = let x = c .before .before .before .before in (
+  λ z. absurd z,
+  λ E w. c .if2 .taken
+      (axes-agree _ _ E (x .before .before .before .before .pre .0 .0) (x .before .before .before .before .pre .0 .1) w (x .loop .inv)),
+)
 
 element-copy-out-s : tie.Need-element-copy-out-s Inv-loop μ-loop
 element-copy-out-s c = query-few (c .before .before .before .before)
@@ -99,7 +107,11 @@ element-copy-out-if3-2 : tie.Need-element-copy-out-if3-2 Inv-loop μ-loop
 element-copy-out-if3-2 c = up-view (c .before .before .before .before .before .before)
 
 returns-3 : tie.Need-returns-3 Inv-loop μ-loop
-returns-3 c = let x = c .before .before .before .before .before .before .before .before .before .before .before .before .before in (λ z. absurd z, λ E w. c .if3 .taken (labels-agree _ _ E (x .pre .0 .0) (x .pre .0 .1) w (up (c .before .before .before .before .before .before .before .before))))
+returns-3 c = let x = c .before .before .before .before .before .before .before .before .before .before .before .before .before in (
+  λ z. absurd z,
+  λ E w. c .if3 .taken (labels-agree _ _ E (x .pre .0 .0) (x .pre .0 .1) w
+      (up (c .before .before .before .before .before .before .before .before))),
+)
 
 loop-less : tie.Need-loop-less Inv-loop μ-loop
 loop-less c = up-less (c .before .before .before .before .before .before .before .before)

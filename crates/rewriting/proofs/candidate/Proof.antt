@@ -17,7 +17,8 @@ abbrev entry : tie.After-main-step → tie.Start
 entry x = x .before .before .before .before .before
 
 -- there the query's main path is long enough
-long : (x : tie.Else1) → length (mainPath (shapeOf (x .before .before .before .before .args .v))) ≤ length (mainPath (shapeOf (x .before .before .before .before .args .q)))
+long : (x : tie.Else1) → length (mainPath (shapeOf (x .before .before .before .before .args .v))) ≤ length
+    (mainPath (shapeOf (x .before .before .before .before .args .q)))
 long x = omega arith
 
 -- the step found is the cut step
@@ -32,7 +33,8 @@ placed x =
 
 -- and the output step is at or below it
 above : (x : tie.After-main-step) → From (shapeOf (entry x .args .q) .tree) (x .main-step .result) (shapeOf (entry x .args .q) .output)
-above x = subst (λ s. From (shapeOf (entry x .args .q) .tree) s (shapeOf (entry x .args .q) .output)) (sym (placed x)) (cut-on-path (entry x .pre .0) (entry x .pre .1) (long (x .before)) .0)
+above x = subst (λ s. From (shapeOf (entry x .args .q) .tree) s (shapeOf (entry x .args .q) .output)) (sym (placed x))
+    (cut-on-path (entry x .pre .0) (entry x .pre .1) (long (x .before)) .0)
 
 returns : tie.Need-returns
 returns c = (λ b. absurd b, λ E k s. omega (arith, k .long))

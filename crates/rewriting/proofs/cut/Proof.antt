@@ -30,7 +30,8 @@ sized x = whole-size (x .before .args .t1) (x .before .pre .0) (x .before .args 
 -- a later step of the cut is a step of the pattern, and hangs on c or later
 late : (x : tie.In-loop Inv-loop μ-loop)
     → (x .before .before .before .before .args .c + x .before .loop .t < x .before .before .before .before .args .t1 .count)
-    × (x .before .before .before .before .args .c ≤ getD (x .before .before .before .before .args .t1 .parent) (x .before .before .before .before .args .c + x .before .loop .t) 0)
+    × (x .before .before .before .before .args .c ≤ getD (x .before .before .before .before .args .t1 .parent)
+    (x .before .before .before .before .args .c + x .before .loop .t) 0)
 late x =
     let a = x .before .before .before .before in
     cut-late (a .args .t1) (a .pre .0) (a .args .c) (a .pre .1) (x .before .loop .t) (omega arith) (omega (arith, sized (x .before .before .before)))
@@ -56,8 +57,12 @@ loop-holds c =
     let a = c .before .before in
     let m = sized (c .before) in
     let v = cut-rules (a .args .t1) (a .pre .0) (a .args .c) (a .pre .1) in
-    let z : a .args .c ≡ a .args .c + 0 = omega arith in
-    (omega arith, filled-next 255 0 (getD (a .args .t1 .label) (a .args .c) 0) (filled-none (cutShape (shapeOf (a .args .t1)) (a .args .c)) (c .before .cut-size .result) (a .args .t1 .output .0 - a .args .c) m refl (v .few)) (v .some) refl refl (ap (λ x. getD (a .args .t1 .label) x 0) z))
+    let z : a .args .c ≡ a .args .c + 0 = omega arith in (
+      omega arith,
+      filled-next 255 0 (getD (a .args .t1 .label) (a .args .c) 0)
+          (filled-none (cutShape (shapeOf (a .args .t1)) (a .args .c)) (c .before .cut-size .result) (a .args .t1 .output .0 - a .args .c) m refl (v .few))
+          (v .some) refl refl (ap (λ x. getD (a .args .t1 .label) x 0) z),
+    )
 
 add-p : tie.Need-add-p Inv-loop μ-loop
 add-p c = omega (arith, late c .0)
@@ -104,14 +109,21 @@ loop-again c =
     let l = c .before .before .before .before .loop in
     let x = c .before .before .before .before .before .before in
     let q = x .before .args .t1 in
-    let k = x .before .args .c + l .t in
-    (omega arith, filled-next (getD (q .parent) k 0 - x .before .args .c) (getD (q .axis) k 0) (getD (q .label) k 0) (l .inv .1) (omega (arith, sized x)) (sym (at-late (l .t) _ _ (l .inv .0))) (sym (at-late (l .t) _ _ (l .inv .0))) refl)
+    let k = x .before .args .c + l .t in (
+      omega arith,
+      filled-next (getD (q .parent) k 0 - x .before .args .c) (getD (q .axis) k 0) (getD (q .label) k 0) (l .inv .1) (omega (arith, sized x))
+          (sym (at-late (l .t) _ _ (l .inv .0))) (sym (at-late (l .t) _ _ (l .inv .0))) refl,
+    )
 
 returns : tie.Need-returns Inv-loop μ-loop
 returns c =
     let x = c .before .before .before in
-    let a = x .before in
-    (cutShape (shapeOf (a .args .t1)) (a .args .c), cut-is (a .args .t1) (a .pre .0) (a .args .c) (a .pre .1), filled-all (c .before .loop .inv .1) (omega (arith, sized x)))
+    let a = x .before in (
+      cutShape (shapeOf (a .args .t1)) (a .args .c),
+      cut-is (a .args .t1) (a .pre .0) (a .args .c) (a .pre .1),
+      filled-all (c .before .loop .inv .1)
+          (omega (arith, sized x)),
+    )
 
 pub cut-spec : {M : Type 1} → statement M
 cut-spec = tie.close (tie.spec Inv-loop μ-loop cut-size-requires cast-less sub-t13 (λ c. omega arith) (λ c. omega arith) mul-p element-copy-out-p

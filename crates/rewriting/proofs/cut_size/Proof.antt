@@ -20,7 +20,8 @@ returns : tie.Need-returns Inv-loop μ-loop
 returns c = taken-stop (shape-ordered (c .before .before .before .before .pre .0)) (c .before .before .before .loop .inv) (c .if1 .taken)
 
 loop-again : tie.Need-loop-again Inv-loop μ-loop
-loop-again c = taken-next (shape-ordered (c .before .before .before .before .pre .0)) (c .before .before .before .loop .inv) (c .before .before .loop-test .taken) (c .if1 .left)
+loop-again c = taken-next (shape-ordered (c .before .before .before .before .pre .0)) (c .before .before .before .loop .inv)
+    (c .before .before .loop-test .taken) (c .if1 .left)
 
 returns-2 : tie.Need-returns-2 Inv-loop μ-loop
 returns-2 c = taken-end (shape-ordered (c .before .before .pre .0)) (c .before .loop .inv) (c .loop-test .left)

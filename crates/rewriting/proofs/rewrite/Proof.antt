@@ -21,7 +21,8 @@ use Rattle.rewriting.proofs.rewrite.Statement.{statement}
 use Rattle.rewriting.proofs.rewrite.Tie as tie
 
 -- an answer with the zero pattern beside it
-said : (Q U : Pattern) (a : Rewriting) (r : RewritingAnswer) → (r .answer ≡ a) × (r .pattern ≡ zeroPattern) → AnswersRewriting Q U a zeroPattern → Rewrites Q U r
+said : (Q U : Pattern) (a : Rewriting) (r : RewritingAnswer) → (r .answer ≡ a) × (r .pattern ≡ zeroPattern) → AnswersRewriting Q U a zeroPattern → Rewrites Q
+    U r
 said Q U a r e h = subst₂ (AnswersRewriting Q U) (sym (e .0)) (sym (e .1)) h
 
 -- past the first test the query obeys the rules
@@ -30,7 +31,8 @@ query x = subst (ChecksPattern (x .before .before .before .args .q)) (x .enum-to
 
 -- and past the second the view
 view : (x : tie.After-enum-told2) → ValidPattern (x .before .before .before .before .before .before .args .v)
-view x = subst (ChecksPattern (x .before .before .before .before .before .before .args .v)) (x .enum-told2 .given .1) (x .before .before .check-pattern2 .ensures) .0 .0
+view x = subst (ChecksPattern (x .before .before .before .before .before .before .args .v)) (x .enum-told2 .given .1)
+    (x .before .before .check-pattern2 .ensures) .0 .0
 
 -- the place where both obey the rules, seen from where the sizes are right
 abbrev both : tie.Else2 → tie.After-enum-told2
@@ -45,7 +47,8 @@ passes : (x : tie.Else2) → Passes (rewritingChecks (entry x .args .q) (entry x
 passes x = (query (both x .before .before .before), (view (both x), ((omega arith, omega arith), tt)))
 
 -- the pattern found is the candidate
-there : (x : tie.Else3) → Candidate (entry (x .before .before .before) .args .q) (entry (x .before .before .before) .args .v) (x .before .before .candidate .result .pattern)
+there : (x : tie.Else3) → Candidate (entry (x .before .before .before) .args .q) (entry (x .before .before .before) .args .v)
+    (x .before .before .candidate .result .pattern)
 there x = x .before .before .candidate .ensures .0 (passed (x .before .before .candidate .result .there) (x .if3 .left))
 
 -- and it can be joined to the view
@@ -60,7 +63,8 @@ returns c =
     let k = c .before .before .before .before in
     let a = k .before .args in
     let v = subst (ChecksPattern (a .q)) (c .before .before .r .given .1) (k .check-pattern .ensures) in
-    said (a .q) (a .v) (rewriting.Refused (c .before .before .r .given .0 .0)) (c .beside .result) (c .beside .ensures) (⊎-elim inl (λ w. absurd (w .1)) (v .0), refl)
+    said (a .q) (a .v) (rewriting.Refused (c .before .before .r .given .0 .0)) (c .beside .result) (c .beside .ensures)
+    (⊎-elim inl (λ w. absurd (w .1)) (v .0), refl)
 
 returns-2 : tie.Need-returns-2
 returns-2 c =
@@ -105,7 +109,8 @@ returns-6 c =
     let a = entry x .args in
     said (a .q) (a .v) rewriting.Nothing (c .beside6 .result) (c .beside6 .ensures) (
       passes x,
-      λ E k s. failed (w .result) (c .before .if4 .taken) (w .ensures .1 (subst (λ p. Equal (shapeOf (joinOf (a .v) p)) (shapeOf (a .q))) (candidate-unique k (there y)) (s .equal))),
+      λ E k s. failed (w .result) (c .before .if4 .taken) (w .ensures .1
+          (subst (λ p. Equal (shapeOf (joinOf (a .v) p)) (shapeOf (a .q))) (candidate-unique k (there y)) (s .equal))),
       refl,
     )
 

@@ -23,10 +23,12 @@ valid : (x : tie.After-join) → ValidPattern (joinOf (x .before .args .v) (x .b
 valid x = join-valid (x .before .args .v) (x .before .args .e) (x .before .pre .1)
 
 -- what is said of the join and the query
-told : (x : tie.After-equal) (r : Equality) → x .equal .result ≡ r → DecidesEquality (x .before .before .before .args .q) (joinOf (x .before .before .before .args .v) (x .before .before .before .args .e)) r
+told : (x : tie.After-equal) (r : Equality) → x .equal .result ≡ r → DecidesEquality (x .before .before .before .args .q)
+    (joinOf (x .before .before .before .args .v) (x .before .before .before .args .e)) r
 told x r e =
     let a = x .before .before .before .args in
-    subst (λ p. DecidesEquality (a .q) p r) (joined (x .before .before)) (subst (DecidesEquality (a .q) (x .before .before .join .result .pattern)) e (x .equal .ensures))
+    subst (λ p. DecidesEquality (a .q) p r) (joined (x .before .before))
+    (subst (DecidesEquality (a .q) (x .before .before .join .result .pattern)) e (x .equal .ensures))
 
 returns : tie.Need-returns
 returns c = (λ t. equal-sym (told (c .before .before) _ (c .enum-told .given .1) .1), λ h. tt)
@@ -39,7 +41,8 @@ returns-3 c =
     let s = c .before .before .before .before .before in
     let a = s .args in (
       λ t. absurd t,
-      λ h. refuses-not-passes (pairChecks (a .q) (joinOf (a .v) (a .e))) (c .enum-told3 .given .0 .0) (told (c .before .before) _ (c .enum-told3 .given .1)) (s .pre .0, (valid (c .before .before .before .before), tt)),
+      λ h. refuses-not-passes (pairChecks (a .q) (joinOf (a .v) (a .e))) (c .enum-told3 .given .0 .0) (told (c .before .before) _ (c .enum-told3 .given .1))
+          (s .pre .0, (valid (c .before .before .before .before), tt)),
     )
 
 pub serves-spec : {M : Type 1} → statement M

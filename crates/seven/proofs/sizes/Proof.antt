@@ -12,7 +12,12 @@ slice-aggregate-answers-2 : tie.Need-slice-aggregate-answers-2
 slice-aggregate-answers-2 c = simp length-take (omega (arith, c .before .before .before .before .before .ones .kept))
 
 slice-aggregate-read-document : tie.Need-slice-aggregate-read-document
-slice-aggregate-read-document c = simp length-take (omega (arith, c .before .before .before .before .put-chain .kept, c .before .before .before .before .before .before .before .put-header .kept))
+slice-aggregate-read-document c = simp length-take (omega (
+  arith,
+  c .before .before .before .before .put-chain .kept,
+  c .before .before .before .before
+      .before .before .before .put-header .kept,
+))
 
 returns : tie.Need-returns
 returns c = search needs

@@ -37,15 +37,22 @@ node-hangs-requires c κs = (omega arith, λ k l. c .before .before .before .loo
 returns-5 : tie.Need-returns-5 Inv-loop μ-loop
 returns-5 c =
     let h = c .before .node-hangs in
-    refused BadDocument (λ v. failed (h .result) (c .if5 .taken) (h .ensures .1 (v .nodes (c .before .before .before .before .before .loop .i) (omega arith) .hangs)))
+    refused BadDocument (λ v. failed (h .result) (c .if5 .taken) (h .ensures .1
+    (v .nodes (c .before .before .before .before .before .loop .i) (omega arith) .hangs)))
 
 loop-again : tie.Need-loop-again Inv-loop μ-loop
 loop-again c =
     let h = c .before .node-hangs in
     let x = c .before .before .before in
     let l = x .before .before .loop in
-    let most = x .shared-slice-known3 .given (l .i) in
-    (omega arith, below-more _ _ (l .inv .1) (record { hangs = h .ensures .0 (passed (h .result) (c .if5 .left)); label = record { least = omega arith; most = omega arith } }))
+    let most = x .shared-slice-known3 .given (l .i) in (
+      omega arith,
+      below-more _ _ (l .inv .1) (record {
+        hangs = h .ensures .0 (passed (h .result) (c .if5 .left));
+        label = record
+            { least = omega arith; most = omega arith };
+      }),
+    )
 
 returns-6 : tie.Need-returns-6 Inv-loop μ-loop
 returns-6 c =

@@ -60,7 +60,8 @@ returns-6 c =
     let h = c .before .step-hangs in
     let l = c .before .before .before .before .before .before .before .before .loop in
     let p = c .before .before .before .before .before .before .before .before .before .before .before .before .before .args .t1 in
-    refused BadPattern (λ v. failed (h .result) (c .if6 .taken) (h .ensures .1 (hangs-front (p .parent) (p .count) (omega arith) 255 (l .s) (omega arith) .0 (v .steps (l .s) (omega arith) .hangs))))
+    refused BadPattern (λ v. failed (h .result) (c .if6 .taken) (h .ensures .1
+    (hangs-front (p .parent) (p .count) (omega arith) 255 (l .s) (omega arith) .0 (v .steps (l .s) (omega arith) .hangs))))
 
 loop-again : tie.Need-loop-again Inv-loop μ-loop
 loop-again c =

@@ -29,12 +29,14 @@ cast-a c = omega (arith, c .shared-slice-known2 .given (c .before .before .loop 
 loop-less : tie.Need-loop-less Inv-loop μ-loop
 loop-less c =
     let s = c .before .before .before .before .before in
-    climb-falls (listed (now (s .args .parents))) 65535 (s .args .i) (omega arith) (s .pre .0) (s .pre .1) (c .before .before .loop .a) (omega arith) (omega arith)
+    climb-falls (listed (now (s .args .parents))) 65535 (s .args .i) (omega arith) (s .pre .0) (s .pre .1) (c .before .before .loop .a) (omega arith)
+    (omega arith)
 
 loop-again : tie.Need-loop-again Inv-loop μ-loop
 loop-again c =
     let s = c .before .before .before .before .before in
-    climb-goes (listed (now (s .args .parents))) 65535 (s .args .i) (omega arith) (s .pre .0) (s .pre .1) (c .before .before .loop .inv) (c .before .loop-test .taken)
+    climb-goes (listed (now (s .args .parents))) 65535 (s .args .i) (omega arith) (s .pre .0) (s .pre .1) (c .before .before .loop .inv)
+    (c .before .loop-test .taken)
 
 returns-2 : tie.Need-returns-2 Inv-loop μ-loop
 returns-2 c =

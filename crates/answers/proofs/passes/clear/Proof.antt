@@ -20,7 +20,12 @@ loop-holds : tie.Need-loop-holds Inv-loop μ-loop
 loop-holds c = (search needs, search needs, fill-none _ 0)
 
 loop-again : tie.Need-loop-again Inv-loop μ-loop
-loop-again c = let l = c .before .loop in (omega arith, simp length-set (l .inv .1), rw (l .inv .2) (fill-more (l .k) 0 (now (c .before .before .args .work)) (omega arith)))
+loop-again c = let l = c .before .loop in (
+  omega arith,
+  simp length-set (l .inv .1),
+  rw (l .inv .2)
+      (fill-more (l .k) 0 (now (c .before .before .args .work)) (omega arith)),
+)
 
 returns : tie.Need-returns Inv-loop μ-loop
 returns c = let e : c .before .loop .k ≡ c .before .before .args .m = omega arith in rw e at (c .before .loop .inv .2)

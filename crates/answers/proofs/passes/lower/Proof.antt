@@ -16,16 +16,25 @@ use Rattle.answers.proofs.passes.lower.Tie as tie
 abbrev Inv-loop : tie.InvT-loop
 Inv-loop kids de near forks output parents work₀ list₀ allowed₀ n c₀ i₀ work list allowed c i =
     (i ≤ n) × (length allowed ≡ 2048) × (length work ≡ length work₀) × (length list ≡ length list₀) × (c ≤ i)
-    × ((A : Shape) (labels : List ℕ) → ValidDocument (record { parents = parents; labels = labels }) → ChildPlan A kids de near forks → A .output ≡ output → Ready A (record { parents = parents; labels = labels }) work₀
-    → Downward A (record { parents = parents; labels = labels }) (Marked work₀) i work₀ work allowed × Listed A (record { parents = parents; labels = labels }) (Marked work₀) i c list₀ list)
+    × ((A : Shape) (labels : List ℕ) → ValidDocument (record { parents = parents; labels = labels }) → ChildPlan A kids de near forks → A .output ≡ output →
+    Ready A (record { parents = parents; labels = labels }) work₀
+    → Downward A (record { parents = parents; labels = labels }) (Marked work₀) i work₀ work allowed × Listed A
+    (record { parents = parents; labels = labels }) (Marked work₀) i c list₀ list)
 
 abbrev μ-loop : tie.MeasureT-loop
 μ-loop kids de near forks output parents work₀ list₀ allowed₀ n c₀ i₀ work list allowed c i = n - i
 
 loop-holds : tie.Need-loop-holds Inv-loop μ-loop
 loop-holds c =
-    let s = c .before .before .before in
-    (omega arith, length-replicate {A = ℕ} 2048 0, refl, refl, omega arith, λ A labels v k o r. (down-ready A _ _ _ r, listed-start A _ (Marked (now (s .args .work))) (k .valid) _))
+    let s = c .before .before .before in (
+      omega arith,
+      length-replicate {A = ℕ} 2048 0,
+      refl,
+      refl,
+      omega arith,
+      λ A labels v k o r.
+          (down-ready A _ _ _ r, listed-start A _ (Marked (now (s .args .work))) (k .valid) _),
+    )
 
 turn-down-requires : tie.Need-turn-down-requires Inv-loop μ-loop
 turn-down-requires c κs =
@@ -36,8 +45,13 @@ turn-down-requires c κs =
 note-requires : tie.Need-note-requires Inv-loop μ-loop
 note-requires c κs =
     let m = c .before .before .before .before .before .before .before in
-    let s = m .before .before .before .before in
-    (omega (arith, s .pre .0 .3, m .loop .inv .3, m .loop .inv .4), omega (arith, s .pre .0 .1, m .loop .inv .4), omega (arith, s .pre .0 .1), omega (arith, s .pre .0 .0))
+    let s = m .before .before .before .before in (
+      omega (arith, s .pre .0 .3, m .loop .inv .3, m .loop .inv .4),
+      omega (arith, s .pre .0 .1, m .loop .inv .4),
+      omega (arith, s .pre .0 .1),
+      omega
+          (arith, s .pre .0 .0),
+    )
 
 loop-again : tie.Need-loop-again Inv-loop μ-loop
 loop-again c =

@@ -22,7 +22,8 @@ slots : (x : ℕ) → Fits w16 x → Fits w64 x × Fits w64 (2 * x) × Fits w64 
 slots x f = (omega arith, omega arith, omega arith, omega arith)
 
 -- the second entry of every start node is in the list
-room : (l : tie.At-loop Inv-loop μ-loop) (i : ℕ) → i < length (now (l .before .args .starts)) → 2 * getD (now (l .before .args .starts)) i 0 + 1 < length (l .loop .work)
+room : (l : tie.At-loop Inv-loop μ-loop) (i : ℕ) → i < length (now (l .before .args .starts)) → 2 * getD (now (l .before .args .starts)) i 0 + 1 < length
+    (l .loop .work)
 room l i h = omega (arith, l .before .pre .1 i h, l .before .pre .0, l .loop .inv .1 .same-length)
 
 loop-holds : tie.Need-loop-holds Inv-loop μ-loop
@@ -55,7 +56,8 @@ returns : tie.Need-returns Inv-loop μ-loop
 returns c =
     let l = c .before in
     let e : l .loop .k ≡ length (now (l .before .args .starts)) = omega arith in
-    let m : MarkedTo (now (l .before .args .starts)) (now (l .before .args .work)) (length (now (l .before .args .starts))) (l .loop .work) = rw e at (l .loop .inv .1) in
+    let m : MarkedTo (now (l .before .args .starts)) (now (l .before .args .work)) (length (now (l .before .args .starts))) (l .loop .work) = rw e at
+    (l .loop .inv .1) in
     (marked-all _ _ _ m, marked-others _ _ _ m)
 
 pub mark-starts-spec : {M : Type 1} → statement M

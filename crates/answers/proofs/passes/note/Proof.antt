@@ -12,7 +12,8 @@ returns c =
 
 returns-2 : tie.Need-returns-2
 returns-2 c =
-    let n : bit (c .before .before .before .args .whole) (c .before .before .before .args .output) ≡ 1 → ⊥ = rw (c .if1 .left) at (c .before .has-bit .ensures) in
+    let n : bit (c .before .before .before .args .whole) (c .before .before .before .args .output) ≡ 1 → ⊥ = rw (c .if1 .left) at
+    (c .before .has-bit .ensures) in
     record { put = λ b. absurd (n b); skip = λ h. (refl, refl) }
 
 pub note-spec : {M : Type 1} → statement M

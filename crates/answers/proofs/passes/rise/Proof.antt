@@ -12,14 +12,22 @@ use Rattle.answers.proofs.passes.rise.Tie as tie
 
 lift-requires : tie.Need-lift-requires
 lift-requires c κs =
-    let s = c .before .before .before .before .before .before .before .before .before .before .before .before .before .before .before .before .before .before .before .before in
+    let s = c .before .before .before .before .before .before .before .before .before .before .before .before .before .before .before .before .before .before
+    .before .before in
     let e = c .before .before .before .before .before .before .clear .ensures in
-    let n : ℕ = length (now (s .args .parents)) in
-    (s .pre .1 .0, (rw (e, cleared-length (2 * n) (now (s .args .work)) (s .pre .1 .1)) (s .pre .1 .1), λ q l. rw e (cleared-zero (2 * n) (now (s .args .work)) q l)))
+    let n : ℕ = length (now (s .args .parents)) in (
+      s .pre .1 .0,
+      (
+        rw (e, cleared-length (2 * n) (now (s .args .work)) (s .pre .1 .1)) (s .pre .1 .1),
+        λ q l. rw e
+            (cleared-zero (2 * n) (now (s .args .work)) q l),
+      ),
+    )
 
 returns : tie.Need-returns
 returns c =
-    let s = c .before .before .before .before .before .before .before .before .before .before .before .before .before .before .before .before .before .before .before .before .before .before .before in
+    let s = c .before .before .before .before .before .before .before .before .before .before .before .before .before .before .before .before .before .before
+    .before .before .before .before .before in
     let e = c .before .before .before .before .before .before .before .before .before .clear .ensures in
     let n : ℕ = length (now (s .args .parents)) in
     let k = c .before .before .before .before .before .before .before .before .before .before .before in
@@ -33,7 +41,8 @@ returns c =
       near-steps = k .before .near-steps .ensures;
       fork-steps = k .fork-steps .ensures;
     } in
-    up-before (shapeOf (s .args .p)) _ (s .pre .0) (s .pre .1 .0) (s .args .seed) 0 _ _ _ (cleared-length (2 * n) (now (s .args .work)) (s .pre .1 .1)) (cleared-rest (2 * n) (now (s .args .work)))
+    up-before (shapeOf (s .args .p)) _ (s .pre .0) (s .pre .1 .0) (s .args .seed) 0 _ _ _ (cleared-length (2 * n) (now (s .args .work)) (s .pre .1 .1))
+    (cleared-rest (2 * n) (now (s .args .work)))
     (rw e at (c .before .before .lift .ensures (shapeOf (s .args .p)) p))
 
 pub rise-spec : {M : Type 1} → statement M

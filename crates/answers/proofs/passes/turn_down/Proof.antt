@@ -16,8 +16,12 @@ above-requires c κs =
 returns : tie.Need-returns
 returns c =
     let s = c .before .before .before .before .before .before .before in
-    let a = c .before .before .before .above .ensures in
-    ((simp length-set, simp length-set), λ A labels before v k u. turned A _ _ _ _ k (record { parents = now (s .args .parents); labels = labels }) (Marked before) v (s .args .i) _ _ before _ _ (s .pre .0 .0) (s .pre .1) (s .pre .0 .2) (omega (arith, s .pre .0 .1, s .pre .0 .3)) (a .0) (a .1) (c .pass-on .ensures) u)
+    let a = c .before .before .before .above .ensures in (
+      (simp length-set, simp length-set),
+      λ A labels before v k u. turned A _ _ _ _ k (record { parents = now (s .args .parents); labels = labels })
+          (Marked before) v (s .args .i) _ _ before _ _ (s .pre .0 .0) (s .pre .1) (s .pre .0 .2) (omega (arith, s .pre .0 .1, s .pre .0 .3)) (a .0) (a .1)
+          (c .pass-on .ensures) u,
+    )
 
 pub turn-down-spec : {M : Type 1} → statement M
 turn-down-spec = tie.close (tie.spec above-requires (λ c. search needs) (λ c. search needs) (λ c. search needs) (λ c. search needs)

@@ -1,4 +1,5 @@
--- `answers::plan::fork_steps` meets its contract. The loop's invariant: `x` has the parents of the steps from 1 on and below t that are not the next after them. Assumes nothing.
+-- `answers::plan::fork_steps` meets its contract. The loop's invariant: `x` has the parents of the steps from 1 on and below t that are not the next after
+-- them. Assumes nothing.
 use Prim.Native.Nat.{ℕ, _-_, _≤_, _<_}
 use mathlib.Core.Logic.{⊎-elim}
 use mathlib.Core.Path.{_≡_}

@@ -10,7 +10,8 @@ use Rattle.answers.proofs.plan.label_steps.Statement.{statement}
 use Rattle.answers.proofs.plan.label_steps.Tie as tie
 
 abbrev Inv-loop : tie.InvT-loop
-Inv-loop low₀ high₀ p n s₀ low high s = (s ≤ n) × (length low ≡ 256) × (length high ≡ 256) × Keyed (λ k. getD (p .label) k 0 % 256) 0 s low × Keyed (λ k. getD (p .label) k 0 / 256) 0 s high
+Inv-loop low₀ high₀ p n s₀ low high s = (s ≤ n) × (length low ≡ 256) × (length high ≡ 256) × Keyed (λ k. getD (p .label) k 0 % 256) 0 s low × Keyed
+    (λ k. getD (p .label) k 0 / 256) 0 s high
 
 abbrev μ-loop : tie.MeasureT-loop
 μ-loop low₀ high₀ p n s₀ low high s = n - s

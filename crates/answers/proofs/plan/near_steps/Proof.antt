@@ -1,4 +1,5 @@
--- `answers::plan::near_steps` meets its contract. The loop's invariant: `x` has the steps from 1 on and below t that hang on the step just before. Assumes nothing.
+-- `answers::plan::near_steps` meets its contract. The loop's invariant: `x` has the steps from 1 on and below t that hang on the step just before. Assumes
+-- nothing.
 use Prim.Native.Nat.{ℕ, _+_, _-_, _≤_, _<_}
 use mathlib.Core.Logic.{⊎-elim}
 use mathlib.Core.Path.{_≡_}

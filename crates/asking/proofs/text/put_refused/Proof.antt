@@ -25,7 +25,16 @@ put-byte-requires c κs =
     let x = c .before .before .before .before .before .before .before .before .before .before .before .before in
     let putword = c .before .before .before .before .before .before .before .put-word in
     let putitem = c .before .before .before .put-item in
-    omega (arith, x .pre, refused-length (x .args .number) (now (x .args .word)), putword .ensures .end, putword .kept .0, putitem .ensures .end, putitem .kept .0)
+    omega (
+      arith,
+      x .pre,
+      refused-length (x .args .number) (now (x .args .word)),
+      putword .ensures .end,
+      putword .kept .0,
+      putitem .ensures .end,
+      putitem
+          .kept .0,
+    )
 
 put-word-requires-2 : tie.Need-put-word-requires-2
 put-word-requires-2 c κs =
@@ -33,23 +42,53 @@ put-word-requires-2 c κs =
     let putword = c .before .before .before .before .before .before .before .before .before .before .before .put-word in
     let putitem = c .before .before .before .before .before .before .before .put-item in
     let putbyte = c .before .before .before .put-byte in
-    omega (arith, x .pre, refused-length (x .args .number) (now (x .args .word)), putword .ensures .end, putword .kept .0, putitem .ensures .end, putitem .kept .0, putbyte .ensures .end, putbyte .kept .0)
+    omega (
+      arith,
+      x .pre,
+      refused-length (x .args .number) (now (x .args .word)),
+      putword .ensures .end,
+      putword .kept .0,
+      putitem .ensures .end,
+      putitem
+          .kept .0,
+      putbyte .ensures .end,
+      putbyte .kept .0,
+    )
 
 put-byte-requires-2 : tie.Need-put-byte-requires-2
 put-byte-requires-2 c κs =
-    let x = c .before .before .before .before .before .before .before .before .before .before .before .before .before .before .before .before .before .before .before .before in
+    let x = c .before .before .before .before .before .before .before .before .before .before .before .before .before .before .before .before .before .before
+    .before .before in
     let putword = c .before .before .before .before .before .before .before .before .before .before .before .before .before .before .before .put-word in
     let putitem = c .before .before .before .before .before .before .before .before .before .before .before .put-item in
     let putbyte = c .before .before .before .before .before .before .before .put-byte in
     let putword2 = c .before .before .before .put-word2 in
-    omega (arith, x .pre, refused-length (x .args .number) (now (x .args .word)), putword .ensures .end, putword .kept .0, putitem .ensures .end, putitem .kept .0, putbyte .ensures .end, putbyte .kept .0, putword2 .ensures .end, putword2 .kept .0)
+    omega (
+      arith,
+      x .pre,
+      refused-length (x .args .number) (now (x .args .word)),
+      putword .ensures .end,
+      putword .kept .0,
+      putitem .ensures .end,
+      putitem
+          .kept .0,
+      putbyte .ensures .end,
+      putbyte .kept .0,
+      putword2 .ensures .end,
+      putword2 .kept .0,
+    )
 
 returns : tie.Need-returns
 unfolding refusedLine
 returns c =
-    let x = c .before .before .before .before .before .before .before .before .before .before .before .before .before .before .before .before .before .before .before .before .before .before .before in
+    let x = c .before .before .before .before .before .before .before .before .before .before .before .before .before .before .before .before .before .before
+    .before .before .before .before .before in
     let l : x .args .at ≤ length (now (x .args .out)) = omega (arith, x .pre) in
-    wrote-then l (wrote-then l (wrote-then l (wrote-then l (c .before .before .before .before .before .before .before .before .before .before .before .before .before .before .before .before .before .before .put-word .ensures) (c .before .before .before .before .before .before .before .before .before .before .before .before .before .before .put-item .ensures)) (c .before .before .before .before .before .before .before .before .before .before .put-byte .ensures)) (c .before .before .before .before .before .before .put-word2 .ensures)) (c .before .before .put-byte2 .ensures)
+    wrote-then l (wrote-then l (wrote-then l (wrote-then l (c .before .before .before .before .before .before .before .before .before .before .before .before
+    .before .before .before .before .before .before .put-word .ensures)
+    (c .before .before .before .before .before .before .before .before .before .before .before .before .before .before .put-item .ensures))
+    (c .before .before .before .before .before .before .before .before .before .before .put-byte .ensures))
+    (c .before .before .before .before .before .before .put-word2 .ensures)) (c .before .before .put-byte2 .ensures)
 
 pub put-refused-spec : {M : Type 1} → statement M
 put-refused-spec = tie.close (tie.spec (λ c. search needs) put-word-requires put-item-requires put-byte-requires put-word-requires-2

@@ -38,12 +38,15 @@ up : (c : tie.In-loop Inv-loop μ-loop) → getD (c .before .before .before .bef
 up c = parent-lt (shape-ordered (c .before .before .before .before .pre .0 .1)) (c .before .loop .t) (c .before .loop .inv .0) (c .loop-test .taken)
 
 image : (c : tie.In-loop Inv-loop μ-loop)
-    → getD (c .before .loop .mapping) (getD (c .before .before .before .before .args .t2 .parent) (c .before .loop .t) 0) (stepNo 0) .0 ≡ c .before .loop .inv .2 .0 (getD (c .before .before .before .before .args .t2 .parent) (c .before .loop .t) 0)
+    → getD (c .before .loop .mapping) (getD (c .before .before .before .before .args .t2 .parent) (c .before .loop .t) 0) (stepNo 0) .0 ≡ c .before .loop .inv
+    .2 .0 (getD (c .before .before .before .before .args .t2 .parent) (c .before .loop .t) 0)
 image c = let i = c .before .loop .inv .2 in ap (λ (x : StepNo). x .0) (rw (i .1) (mapping-at (i .0) (c .before .loop .t) _ (up c)))
 
 small : (c : tie.In-loop Inv-loop μ-loop)
-    → getD (c .before .loop .mapping) (getD (c .before .before .before .before .args .t2 .parent) (c .before .loop .t) 0) (stepNo 0) .0 < c .before .before .before .before .args .a .count
-small c = rw (image c) (able-ok (mapTask (shapeOf (c .before .before .before .before .args .t2)) (shapeOf (c .before .before .before .before .args .a))) (c .before .loop .inv .2 .2 .can _ (up c)) .0 .here)
+    → getD (c .before .loop .mapping) (getD (c .before .before .before .before .args .t2 .parent) (c .before .loop .t) 0) (stepNo 0) .0 < c .before .before
+    .before .before .args .a .count
+small c = rw (image c) (able-ok (mapTask (shapeOf (c .before .before .before .before .args .t2)) (shapeOf (c .before .before .before .before .args .a)))
+    (c .before .loop .inv .2 .2 .can _ (up c)) .0 .here)
 
 element-copy-out-q : tie.Need-element-copy-out-q Inv-loop μ-loop
 element-copy-out-q c = omega (arith, up (c .before), c .before .before .before .before .before .pre .0 .1 .few)
@@ -53,19 +56,24 @@ cast-q c = record { fits = omega (arith, small (c .before), c .before .before .b
 
 next-image-requires : tie.Need-next-image-requires Inv-loop μ-loop
 next-image-requires c κs =
-    let v = c .before .before .before .before .before .before .before .before .pre .0 in
-    ((v .0 .few, omega (arith, v .1 .few), small (c .before .before .before .before)), parent-few (shapeOf (c .before .before .before .before .before .before .before .before .args .a)) (v .0))
+    let v = c .before .before .before .before .before .before .before .before .pre .0 in (
+      (v .0 .few, omega (arith, v .1 .few), small (c .before .before .before .before)),
+      parent-few
+          (shapeOf (c .before .before .before .before .before .before .before .before .args .a)) (v .0),
+    )
 
 -- what was picked, and that something was
 picks : (c : tie.After-next-image Inv-loop μ-loop)
     → let m = c .before .before .before .before .before .before in
     let b = shapeOf (m .before .before .before .args .t2) in
-    Picks (ImageAt (shapeOf (m .before .before .before .args .a)) (now (m .before .before .before .args .fit)) (m .loop .t) (b .axis (m .loop .t)) (m .loop .inv .2 .0 (b .tree .parent (m .loop .t)))) (c .next-image .result)
+    Picks (ImageAt (shapeOf (m .before .before .before .args .a)) (now (m .before .before .before .args .fit)) (m .loop .t) (b .axis (m .loop .t))
+    (m .loop .inv .2 .0 (b .tree .parent (m .loop .t)))) (c .next-image .result)
 picks c =
     let m = c .before .before .before .before .before .before in
     let s = m .before .before .before in
     let i = m .loop .inv .2 in
-    (rw (image (c .before .before .before .before .before)) at (c .next-image .ensures)) (shapeOf (s .args .a)) (record { valid = s .pre .0 .0; count = refl; parent = λ j. refl; axis = λ j. refl })
+    (rw (image (c .before .before .before .before .before)) at (c .next-image .ensures)) (shapeOf (s .args .a))
+    (record { valid = s .pre .0 .0; count = refl; parent = λ j. refl; axis = λ j. refl })
     (image-there _ _ (s .pre .0 .1) (s .pre .0 .0) (now (s .args .fit)) (s .pre .1 .0) (m .loop .t) (i .0) (m .loop .inv .0) (omega arith) (i .2))
 
 found : (c : tie.After-next-image Inv-loop μ-loop) → c .next-image .result < 64
@@ -73,7 +81,8 @@ found c =
     let m = c .before .before .before .before .before .before in
     let s = m .before .before .before in
     let i = m .loop .inv .2 in
-    image-found _ _ (s .pre .0 .1) (s .pre .0 .0) (now (s .args .fit)) (s .pre .1 .0) (m .loop .t) (i .0) (m .loop .inv .0) (omega arith) (i .2) (c .next-image .result) (picks c)
+    image-found _ _ (s .pre .0 .1) (s .pre .0 .0) (now (s .args .fit)) (s .pre .1 .0) (m .loop .t) (i .0) (m .loop .inv .0) (omega arith) (i .2)
+    (c .next-image .result) (picks c)
 
 cast-t21 : tie.Need-cast-t21 Inv-loop μ-loop
 cast-t21 c = record { fits = omega (arith, found c) }
@@ -91,7 +100,8 @@ loop-again c =
       (
         upd (i .0) (m .loop .t) (c .next-image .result),
         rw (i .1) (mapping-more (i .0) (m .loop .t) _ (omega (arith, s .pre .0 .1 .few))),
-        chose-more _ _ (s .pre .0 .1) (s .pre .0 .0) (now (s .args .fit)) (s .pre .1 .0) (m .loop .t) (i .0) (m .loop .inv .0) (omega arith) (i .2) (c .next-image .result) (picks c),
+        chose-more _ _ (s .pre .0 .1) (s .pre .0 .0) (now (s .args .fit)) (s .pre .1 .0) (m .loop .t) (i .0) (m .loop .inv .0) (omega arith) (i .2)
+            (c .next-image .result) (picks c),
       ),
     )
 

@@ -1,4 +1,5 @@
--- `containment::fitting::gather` meets its contract. The loop's invariant: the sets have the steps from 1 on and below t, and these stand as bits at their parents. Assumes nothing.
+-- `containment::fitting::gather` meets its contract. The loop's invariant: the sets have the steps from 1 on and below t, and these stand as bits at their
+-- parents. Assumes nothing.
 use Prim.Native.Nat.{ℕ, _+_, _-_, _≤_, _<_}
 use mathlib.Core.Path.{_≡_}
 use mathlib.Core.Logic.{⊎-elim}
@@ -70,7 +71,9 @@ loop-again c =
           (c .before .if1 .came),
       ⊎-elim
           (λ w. rw (w .2) (among-skip 1 (x 1) (m .loop .descendant) t (λ e. omega (arith, w .0 .taken, e)) (m .loop .inv .5)))
-          (λ w. rw (w .2, z) (among-more 1 (x 1) (m .loop .descendant) t (m .loop .inv .0) (⊎-elim (λ e. absurd (w .0 .left e)) (λ e. e) (axes (m .before .pre .0) t (c .before .before .before .before .before .before .loop-test .taken))) (m .loop .inv .5)))
+          (λ w. rw (w .2, z) (among-more 1 (x 1) (m .loop .descendant) t (m .loop .inv .0)
+          (⊎-elim (λ e. absurd (w .0 .left e)) (λ e. e) (axes (m .before .pre .0) t
+          (c .before .before .before .before .before .before .loop-test .taken))) (m .loop .inv .5)))
           (c .before .if1 .came),
       ⊎-elim
           (λ w. rw (w .1, z) (among-more 1 q (m .loop .next) t (m .loop .inv .0) (w .0 .taken) (m .loop .inv .6)))

@@ -1,4 +1,5 @@
--- `containment::fitting::label_steps` meets its contract. The loop's invariant: the steps below t stand in the three tables, by the parts of their labels. Assumes nothing.
+-- `containment::fitting::label_steps` meets its contract. The loop's invariant: the steps below t stand in the three tables, by the parts of their labels.
+-- Assumes nothing.
 use Prim.Native.Nat.{ℕ, _-_, _/_, _%_, _≤_, _<_}
 use mathlib.Core.Path.{_≡_}
 use native.Mathlib.Omega.{arith}

@@ -18,7 +18,8 @@ use Rattle.containment.proofs.fitting.raise.Tie as tie
 abbrev Inv-loop : tie.InvT-loop
 Inv-loop m low mid high who kids fit₀ a under₀ output i₀ fit under i =
     (1 ≤ i) × (i ≤ a .count) × (length fit ≡ 64) × (length under ≡ 64)
-    × ((B : Shape) → Labelled B low mid high → PlanOf B (m .child) (m .descendant) (m .next) (m .output) (m .groups) who kids → Lifted B (shapeOf a) i fit under)
+    × ((B : Shape) → Labelled B low mid high → PlanOf B (m .child) (m .descendant) (m .next) (m .output) (m .groups) who kids → Lifted B (shapeOf a) i fit
+    under)
 
 abbrev μ-loop : tie.MeasureT-loop
 μ-loop m low mid high who kids fit₀ a under₀ output i₀ fit under i = i
@@ -36,7 +37,8 @@ mask-for-requires c κs = tt
 
 -- a step's parent comes before it
 up : (c : tie.After-hand-up-arg2 Inv-loop μ-loop)
-    → getD (c .before .before .before .before .before .before .before .before .before .before .args .t1 .parent) (c .before .before .before .before .before .before .before .before .before .loop .i - 1) 0
+    → getD (c .before .before .before .before .before .before .before .before .before .before .args .t1 .parent)
+    (c .before .before .before .before .before .before .before .before .before .loop .i - 1) 0
     < c .before .before .before .before .before .before .before .before .before .loop .i - 1
 up c =
     let m = c .before .before .before .before .before .before .before .before .before in
@@ -67,7 +69,8 @@ loop-again c =
           let u : Lifted B (shapeOf (s .args .t1)) (suc i) (m .loop .fit) (m .loop .under) = rw z (m .loop .inv .4 B t p) in
           rw (h .0, h .1, c .before .before .before .before .mask-for .ensures)
           (lift-turn B _ (p .valid) v i _ _ _ _ (record { late = omega arith; here = l; up = refl }) u
-          (lift-fits B _ (p .valid) v i _ _ (eqb i (s .args .t1 .output .0)) l (o .says, o .test) u _ (c .before .before .before .before .before .before .fits2 .ensures B t p))
+          (lift-fits B _ (p .valid) v i _ _ (eqb i (s .args .t1 .output .0)) l (o .says, o .test) u _
+          (c .before .before .before .before .before .before .fits2 .ensures B t p))
           (omega (arith, v .few, m .loop .inv .2)) (omega (arith, v .few, m .loop .inv .3))),
     )
 
@@ -83,7 +86,8 @@ returns c = λ B t p.
     let u : Lifted B (shapeOf (s .args .t1)) 1 (m .loop .fit) (m .loop .under) = rw e at (m .loop .inv .4 B t p) in
     let o = tells-eq 0 (s .args .t1 .output .0) in
     lift-root B _ (p .valid) v _ _ _ u
-    (lift-fits B _ (p .valid) v 0 _ _ (eqb 0 (s .args .t1 .output .0)) (v .some) (o .says, o .test) u _ (c .fits3 .ensures B t p)) (omega (arith, m .loop .inv .2))
+    (lift-fits B _ (p .valid) v 0 _ _ (eqb 0 (s .args .t1 .output .0)) (v .some) (o .says, o .test) u _ (c .fits3 .ensures B t p))
+    (omega (arith, m .loop .inv .2))
 
 pub raise-spec : {M : Type 1} → statement M
 raise-spec = tie.close (tie.spec Inv-loop μ-loop (λ c. search needs) loop-holds (λ c. omega arith) (λ c. omega arith) (λ c. omega arith)

@@ -27,7 +27,15 @@ add-d : tie.Need-add-d Inv-loop μ-loop
 add-d c =
     let m = c .before .before in
     let v = m .before .pre .0 in
-    record { fits = omega (arith, descendants-le (shapeOf (m .before .args .t1)) (axes v) (m .loop .s) (omega arith), v .few, ⊎-elim {C = getD (m .before .args .t1 .axis) (m .loop .s) 0 ≤ 1} (λ e. omega arith) (λ e. omega arith) (v .steps (m .loop .s) (omega arith) .axis)) }
+    record {
+      fits = omega (
+        arith,
+        descendants-le (shapeOf (m .before .args .t1)) (axes v) (m .loop .s) (omega arith),
+        v .few,
+        ⊎-elim
+            {C = getD (m .before .args .t1 .axis) (m .loop .s) 0 ≤ 1} (λ e. omega arith) (λ e. omega arith) (v .steps (m .loop .s) (omega arith) .axis),
+      );
+    }
 
 loop-again : tie.Need-loop-again Inv-loop μ-loop
 unfolding descendants

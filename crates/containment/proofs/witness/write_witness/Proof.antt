@@ -15,7 +15,8 @@ use Rattle.containment.proofs.witness.write_witness.Statement.{statemen
 use Rattle.containment.proofs.witness.write_witness.Tie as tie
 
 abbrev Inv-loop : tie.InvT-loop
-Inv-loop l parents₀ labels₀ a n nodes₀ m₀ s₀ parents labels nodes m s = (s ≤ n) × Front (shapeOf a) l s m parents₀ labels₀ parents labels × (length nodes ≡ 64) × NodesTo (shapeOf a) s nodes
+Inv-loop l parents₀ labels₀ a n nodes₀ m₀ s₀ parents labels nodes m s = (s ≤ n) × Front (shapeOf a) l s m parents₀ labels₀ parents labels ×
+    (length nodes ≡ 64) × NodesTo (shapeOf a) s nodes
 
 abbrev μ-loop : tie.MeasureT-loop
 μ-loop l parents₀ labels₀ a n nodes₀ m₀ s₀ parents labels nodes m s = n - s
@@ -27,7 +28,8 @@ element-copy-out-hook-of : tie.Need-element-copy-out-hook-of Inv-loop μ-loop
 element-copy-out-hook-of c = omega (arith, c .before .before .before .before .before .pre .0 .few)
 
 hook-of-requires : tie.Need-hook-of-requires Inv-loop μ-loop
-hook-of-requires c κs = λ l. parent-few (shapeOf (c .before .before .before .before .before .before .args .t1)) (c .before .before .before .before .before .before .pre .0) (c .before .before .before .loop .s) l (c .before .before .loop-test .taken)
+hook-of-requires c κs = λ l. parent-few (shapeOf (c .before .before .before .before .before .before .args .t1))
+    (c .before .before .before .before .before .before .pre .0) (c .before .before .before .loop .s) l (c .before .before .loop-test .taken)
 
 element-copy-out-write-step : tie.Need-element-copy-out-write-step Inv-loop μ-loop
 element-copy-out-write-step c = omega (arith, c .before .before .before .before .before .before .before .pre .0 .few)
@@ -54,20 +56,29 @@ write-step-requires c κs =
     (omega (arith, r, f .place, witness-few (p .0)), at-most a, omega (arith, r, f .place, k .0, p .1), omega (arith, r, f .place, k .1, p .2))
 
 -- the hook is the step's
-hooked : (c : tie.After-slice-known4 Inv-loop μ-loop) → c .before .before .before .before .before .before .before .before .before .hook-of .result ≡ hook (shapeOf (c .before .before .before .before .before .before .before .before .before .before .before .before .before .before .before .before .args .t1)) (c .before .before .before .before .before .before .before .before .before .before .before .before .before .loop .s)
+hooked : (c : tie.After-slice-known4 Inv-loop μ-loop) → c .before .before .before .before .before .before .before .before .before .hook-of .result ≡ hook
+    (shapeOf (c .before .before .before .before .before .before .before .before .before .before .before .before .before .before .before .before .args .t1))
+    (c .before .before .before .before .before .before .before .before .before .before .before .before .before .loop .s)
 hooked c =
     let m = c .before .before .before .before .before .before .before .before .before .before .before .before .before in
     let h = c .before .before .before .before .before .before .before .before .before .hook-of .ensures in
-    hook-is (shapeOf (c .before .before .before .before .before .before .before .before .before .before .before .before .before .before .before .before .args .t1)) (c .before .before .before .before .before .before .before .before .before .before .before .before .before .before .before .before .pre .0) (m .loop .s) _ (m .loop .nodes) (c .before .before .before .before .before .before .before .before .before .before .before .before .loop-test .taken) (m .loop .inv .3) (h .0) (h .1)
+    hook-is (shapeOf (c .before .before .before .before .before .before .before .before .before .before .before .before .before .before .before .before .args
+    .t1)) (c .before .before .before .before .before .before .before .before .before .before .before .before .before .before .before .before .pre .0)
+    (m .loop .s) _ (m .loop .nodes) (c .before .before .before .before .before .before .before .before .before .before .before .before .loop-test .taken)
+    (m .loop .inv .3) (h .0) (h .1)
 
 -- the first steps up to step s are written, when it is
-written : (c : tie.After-slice-known4 Inv-loop μ-loop) → let m = c .before .before .before .before .before .before .before .before .before .before .before .before .before in
-    Front (shapeOf (m .before .before .before .args .t1)) (m .before .before .before .args .l) (m .loop .s + 1) (c .before .before .before .before .write-step .result)
-    (now (m .before .before .before .args .parents)) (now (m .before .before .before .args .labels)) (c .before .before .before .before .write-step .last .1 .1 .1 .1 .1 .0) (c .before .before .before .before .write-step .last .1 .1 .1 .1 .1 .1 .0)
+written : (c : tie.After-slice-known4 Inv-loop μ-loop) → let m = c .before .before .before .before .before .before .before .before .before .before .before
+    .before .before in
+    Front (shapeOf (m .before .before .before .args .t1)) (m .before .before .before .args .l) (m .loop .s + 1)
+    (c .before .before .before .before .write-step .result)
+    (now (m .before .before .before .args .parents)) (now (m .before .before .before .args .labels))
+    (c .before .before .before .before .write-step .last .1 .1 .1 .1 .1 .0) (c .before .before .before .before .write-step .last .1 .1 .1 .1 .1 .1 .0)
 written c =
     let m = c .before .before .before .before .before .before .before .before .before .before .before .before .before in
     let s = m .before .before .before in
-    front-more (shapeOf (s .args .t1)) (s .pre .0) (s .args .l) (m .loop .s) (m .loop .m) _ _ _ _ _ _ _ (c .before .before .before .before .before .before .before .before .before .before .before .before .loop-test .taken) (m .loop .inv .1)
+    front-more (shapeOf (s .args .t1)) (s .pre .0) (s .args .l) (m .loop .s) (m .loop .m) _ _ _ _ _ _ _
+    (c .before .before .before .before .before .before .before .before .before .before .before .before .loop-test .taken) (m .loop .inv .1)
     (rw (hooked c) at (c .before .before .before .before .write-step .ensures)) (s .pre .1) (s .pre .2)
 
 sub-nodes : tie.Need-sub-nodes Inv-loop μ-loop
@@ -77,17 +88,43 @@ cast-nodes : tie.Need-cast-nodes Inv-loop μ-loop
 cast-nodes c =
     let m = c .before .before .before .before .before .before .before .before .before .before .before .before .before in
     let p = m .before .before .before .pre in
-    let few = descendants-le (shapeOf (m .before .before .before .args .t1)) (axes (p .0)) (m .loop .s + 1) (omega (arith, c .before .before .before .before .before .before .before .before .before .before .before .before .loop-test .taken)) in
-    record { fits = omega (arith, written c .place, few, p .0 .few, c .before .before .before .before .before .before .before .before .before .before .before .before .loop-test .taken) }
+    let few = descendants-le (shapeOf (m .before .before .before .args .t1)) (axes (p .0)) (m .loop .s + 1)
+    (omega (arith, c .before .before .before .before .before .before .before .before .before .before .before .before .loop-test .taken)) in
+    record {
+      fits = omega (
+        arith,
+        written c .place,
+        few,
+        p .0 .few,
+        c .before .before .before .before .before .before .before .before .before .before .before
+            .before .loop-test .taken,
+      );
+    }
 
 mul-nodes : tie.Need-mul-nodes Inv-loop μ-loop
-mul-nodes c = record { fits = omega (arith, c .before .before .before .before .before .before .before .before .before .before .before .before .before .before .before .before .pre .0 .few) }
+mul-nodes c = record {
+  fits = omega (
+    arith,
+    c .before .before .before .before .before .before .before .before .before .before .before .before .before .before
+        .before .before .pre .0 .few,
+  );
+}
 
 array-write-nodes : tie.Need-array-write-nodes Inv-loop μ-loop
-array-write-nodes c = omega (arith, c .before .before .before .before .before .before .before .before .before .before .before .before .before .before .before .before .pre .0 .few)
+array-write-nodes c = omega (
+  arith,
+  c .before .before .before .before .before .before .before .before .before .before .before .before .before .before .before
+      .before .pre .0 .few,
+)
 
 add-s : tie.Need-add-s Inv-loop μ-loop
-add-s c = record { fits = omega (arith, c .before .before .before .before .before .before .before .before .before .before .before .before .before .before .before .before .pre .0 .few) }
+add-s c = record {
+  fits = omega (
+    arith,
+    c .before .before .before .before .before .before .before .before .before .before .before .before .before .before
+        .before .before .pre .0 .few,
+  );
+}
 
 loop-less : tie.Need-loop-less Inv-loop μ-loop
 loop-less c = omega (arith, c .before .before .before .before .before .before .before .before .before .before .before .before .loop-test .taken)
@@ -99,7 +136,12 @@ loop-again c =
       omega arith,
       f,
       simp length-set (m .loop .inv .2),
-      nodes-more _ (m .loop .s) _ (m .loop .nodes) (omega (arith, m .loop .inv .2, c .before .before .before .before .before .before .before .before .before .before .before .before .before .before .before .before .pre .0 .few)) (f .place) (m .loop .inv .3),
+      nodes-more _ (m .loop .s) _ (m .loop .nodes) (omega (
+        arith,
+        m .loop .inv .2,
+        c .before .before .before .before .before .before .before .before .before
+            .before .before .before .before .before .before .before .pre .0 .few,
+      )) (f .place) (m .loop .inv .3),
     )
 
 same-length : tie.Need-same-length Inv-loop μ-loop

@@ -19,14 +19,16 @@ put-head-requires : tie.Need-put-head-requires Inv-loop μ-loop
 put-head-requires c κs = (omega arith, omega arith)
 
 loop-holds : tie.Need-loop-holds Inv-loop μ-loop
-loop-holds c = let a = c .before .before .before .before .before .before .before .args in written-head (record { parents = now (a .parents); labels = now (a .labels) }) _ (now (a .room)) (c .before .before .put-head .ensures)
+loop-holds c = let a = c .before .before .before .before .before .before .before .args in written-head
+    (record { parents = now (a .parents); labels = now (a .labels) }) _ (now (a .room)) (c .before .before .put-head .ensures)
 
 loop-again : tie.Need-loop-again Inv-loop μ-loop
 unfolding nodeBytes
 loop-again c =
     let l = c .before .before .before .before .before .before .before .loop in
     let a = c .before .before .before .before .before .before .before .before .before .before .before .before .before .before .before .args in
-    written-next (record { parents = now (a .parents); labels = now (a .labels) }) _ (l .i) (l .room) _ (omega arith) (c .before .before .put-node .kept .0) (c .before .before .put-node .ensures) (l .inv)
+    written-next (record { parents = now (a .parents); labels = now (a .labels) }) _ (l .i) (l .room) _ (omega arith) (c .before .before .put-node .kept .0)
+    (c .before .before .put-node .ensures) (l .inv)
 
 same-length : tie.Need-same-length Inv-loop μ-loop
 same-length c = c .before .loop .inv .same ∙ c .before .before .before .before .put-head .kept .0
@@ -35,7 +37,8 @@ returns : tie.Need-returns Inv-loop μ-loop
 returns c =
     let l = c .before .loop in
     let a = c .before .before .before .before .before .before .before .before .before .args in
-    written-all (record { parents = now (a .parents); labels = now (a .labels) }) _ (now (a .room)) (l .room) (l .i) (omega arith) (c .before .before .before .before .put-head .ensures) (l .inv)
+    written-all (record { parents = now (a .parents); labels = now (a .labels) }) _ (now (a .room)) (l .room) (l .i) (omega arith)
+    (c .before .before .before .before .put-head .ensures) (l .inv)
 
 pub put-document-spec : {M : Type 1} → statement M
 put-document-spec = tie.close (tie.spec Inv-loop μ-loop put-head-requires loop-holds (λ c. omega arith) (λ c. omega arith) (λ c. omega arith)

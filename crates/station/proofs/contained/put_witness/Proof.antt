@@ -8,7 +8,8 @@ use Rattle.station.proofs.contained.put_witness.Tie as tie
 returns : tie.Need-returns
 returns c =
     let a = c .before .before .before .before .before .before .before .before .before .before .before .args in
-    written-node (record { parents = now (a .parents); labels = now (a .labels) }) (now (a .room)) _ _ (a .node) (c .before .before .before .before .before .before .put-document .ensures) (c .before .before .put-half .ensures)
+    written-node (record { parents = now (a .parents); labels = now (a .labels) }) (now (a .room)) _ _ (a .node)
+    (c .before .before .before .before .before .before .put-document .ensures) (c .before .before .put-half .ensures)
 
 pub put-witness-spec : {M : Type 1} → statement M
 put-witness-spec = tie.close (tie.spec (λ c κs. search needs) (λ c. search needs) (λ c. search needs) (λ c κs. search needs) (λ c. search needs)

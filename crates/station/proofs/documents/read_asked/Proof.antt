@@ -16,26 +16,32 @@ few : (x : tie.After-n) → x .n .given .0 .0 ≤ 2048
 few x =
     let a = entry x .args in
     let d = x .before .before .before .before .before .before .read-nodes in
-    nodes-few (now (a .document)) (now (a .pattern)) (now (a .parents)) (now (a .labels)) (d .last .1 .0) (d .last .1 .1 .0) (d .result) (d .ensures) (x .n .given .0 .0) (x .n .given .1)
+    nodes-few (now (a .document)) (now (a .pattern)) (now (a .parents)) (now (a .labels)) (d .last .1 .0) (d .last .1 .1 .0) (d .result) (d .ensures)
+    (x .n .given .0 .0) (x .n .given .1)
 
 returns : tie.Need-returns
 returns c =
     let s = c .before .before .before .before .before .before .before .before .before .before .before .before .before .before .before .before in
     let d = c .before .before .before .before .before .before .before .read-nodes in
-    asked-no-nodes (now (s .args .document)) (now (s .args .pattern)) (now (s .args .parents)) (now (s .args .labels)) (d .last .1 .0) (d .last .1 .1 .0) (d .result) (d .ensures)
+    asked-no-nodes (now (s .args .document)) (now (s .args .pattern)) (now (s .args .parents)) (now (s .args .labels)) (d .last .1 .0) (d .last .1 .1 .0)
+    (d .result) (d .ensures)
     (s .pre .0) (s .pre .1) (c .before .r .given .0 .0) _ (c .before .r .given .1)
 
 slice-reshare-prefix-after-rules : tie.Need-slice-reshare-prefix-after-rules
-slice-reshare-prefix-after-rules c = let x = c .before .before .before .before in omega (arith, few x, x .before .before .before .before .before .before .read-nodes .kept, entry x .pre .0)
+slice-reshare-prefix-after-rules c = let x = c .before .before .before .before in omega
+    (arith, few x, x .before .before .before .before .before .before .read-nodes .kept, entry x .pre .0)
 
 slice-aggregate-after-rules : tie.Need-slice-aggregate-after-rules
-slice-aggregate-after-rules c = let x = c .before .before .before .before .before in simp length-take (omega (arith, few x, x .before .before .before .before .before .before .read-nodes .kept, entry x .pre .0))
+slice-aggregate-after-rules c = let x = c .before .before .before .before .before in simp length-take
+    (omega (arith, few x, x .before .before .before .before .before .before .read-nodes .kept, entry x .pre .0))
 
 slice-reshare-prefix-after-rules-2 : tie.Need-slice-reshare-prefix-after-rules-2
-slice-reshare-prefix-after-rules-2 c = let x = c .before .before .before .before .before in omega (arith, few x, x .before .before .before .before .before .before .read-nodes .kept, entry x .pre .1)
+slice-reshare-prefix-after-rules-2 c = let x = c .before .before .before .before .before in omega
+    (arith, few x, x .before .before .before .before .before .before .read-nodes .kept, entry x .pre .1)
 
 slice-aggregate-after-rules-2 : tie.Need-slice-aggregate-after-rules-2
-slice-aggregate-after-rules-2 c = let x = c .before .before .before .before .before .before in simp length-take (omega (arith, few x, x .before .before .before .before .before .before .read-nodes .kept, entry x .pre .1))
+slice-aggregate-after-rules-2 c = let x = c .before .before .before .before .before .before in simp length-take
+    (omega (arith, few x, x .before .before .before .before .before .before .read-nodes .kept, entry x .pre .1))
 
 returns-2 : tie.Need-returns-2
 returns-2 c =
@@ -43,7 +49,8 @@ returns-2 c =
     let a = entry x .args in
     let d = x .before .before .before .before .before .before .read-nodes in
     let p = x .before .before .before .before .before .before .before .before .before .before .read-pattern in
-    asked-both (now (a .document)) (now (a .pattern)) (now (a .parents)) (now (a .labels)) (d .last .1 .0) (d .last .1 .1 .0) (d .result) (d .ensures) (x .n .given .0 .0) (x .n .given .1)
+    asked-both (now (a .document)) (now (a .pattern)) (now (a .parents)) (now (a .labels)) (d .last .1 .0) (d .last .1 .1 .0) (d .result) (d .ensures)
+    (x .n .given .0 .0) (x .n .given .1)
     (p .result) (p .ensures) (c .enum-told .given .1)
 
 returns-3 : tie.Need-returns-3
@@ -53,7 +60,8 @@ returns-3 c =
     let d = x .before .before .before .before .before .before .read-nodes in
     let p = x .before .before .before .before .before .before .before .before .before .before .read-pattern in
     let t = c .before .before .before .before .told in
-    asked-no-pattern (now (a .document)) (now (a .pattern)) (now (a .parents)) (now (a .labels)) (d .last .1 .0) (d .last .1 .1 .0) (d .result) (d .ensures) (x .n .given .0 .0) (x .n .given .1)
+    asked-no-pattern (now (a .document)) (now (a .pattern)) (now (a .parents)) (now (a .labels)) (d .last .1 .0) (d .last .1 .1 .0) (d .result) (d .ensures)
+    (x .n .given .0 .0) (x .n .given .1)
     (p .result) (p .ensures) (t .given .0 .0) (c .after-rules .result) (t .given .1) (c .after-rules .ensures)
 
 pub read-asked-spec : {M : Type 1} → statement M

@@ -25,8 +25,12 @@ loop-holds c = search needs
 loop-again : tie.Need-loop-again Inv-loop μ-loop
 loop-again c =
     let l = c .before .before .before .before .loop in
-    let a = c .before .before .before .before .before .before .before .args in
-    (omega arith, simp length-set (l .inv .1), rw (l .inv .2) (column-next (λ j. half (now (a .bytes)) (2 * j)) (now (a .list)) (l .i) (c .half-of .result) (omega arith) (c .half-of .ensures)))
+    let a = c .before .before .before .before .before .before .before .args in (
+      omega arith,
+      simp length-set (l .inv .1),
+      rw (l .inv .2) (column-next (λ j. half (now (a .bytes)) (2 * j)) (now (a .list)) (l .i) (c .half-of .result)
+          (omega arith) (c .half-of .ensures)),
+    )
 
 returns : tie.Need-returns Inv-loop μ-loop
 returns c =

@@ -26,8 +26,12 @@ loop-again : tie.Need-loop-again Inv-loop μ-loop
 unfolding halfBytes
 loop-again c =
     let l = c .before .before .before .before .before .before .loop in
-    let a = c .before .before .before .before .before .before .before .before .before .args in
-    (omega arith, c .before .before .put-half .kept .0 ∙ l .inv .1, halves-next (now (a .list)) (now (a .room)) (l .room) _ (l .k) (l .inv .2) (c .before .before .put-half .ensures))
+    let a = c .before .before .before .before .before .before .before .before .before .args in (
+      omega arith,
+      c .before .before .put-half .kept .0 ∙ l .inv .1,
+      halves-next (now (a .list)) (now (a .room)) (l .room) _ (l .k) (l .inv .2)
+          (c .before .before .put-half .ensures),
+    )
 
 same-length : tie.Need-same-length Inv-loop μ-loop
 same-length c = c .before .loop .inv .1

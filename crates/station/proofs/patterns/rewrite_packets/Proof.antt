@@ -9,10 +9,13 @@ use Rattle.station.proofs.patterns.rewrite_packets.Statement.{statement
 use Rattle.station.proofs.patterns.rewrite_packets.Tie as tie
 
 -- past the first test both packets are read
-both : (x : tie.After-enum-told) → ReadsTwo (now (x .before .before .before .before .before .before .args .query)) (now (x .before .before .before .before .before .before .args .view)) Right (x .before .before .read-two .result .first) (x .before .before .read-two .result .second)
+both : (x : tie.After-enum-told) → ReadsTwo (now (x .before .before .before .before .before .before .args .query))
+    (now (x .before .before .before .before .before .before .args .view)) Right (x .before .before .read-two .result .first)
+    (x .before .before .read-two .result .second)
 both x =
     let t = x .before .before .read-two in
-    subst (λ r. ReadsTwo (now (x .before .before .before .before .before .before .args .query)) (now (x .before .before .before .before .before .before .args .view)) r (t .result .first) (t .result .second)) (x .enum-told .given .1) (t .ensures)
+    subst (λ r. ReadsTwo (now (x .before .before .before .before .before .before .args .query))
+    (now (x .before .before .before .before .before .before .args .view)) r (t .result .first) (t .result .second)) (x .enum-told .given .1) (t .ensures)
 
 returns : tie.Need-returns
 returns c =
@@ -25,7 +28,9 @@ returns-2 : tie.Need-returns-2
 returns-2 c =
     let j = c .before .before .before .before .before .before .rewrite in
     let w = c .before .before .write-pattern in
-    rewrite-handed _ _ (now (c .before .before .before .before .before .before .before .before .before .before .before .before .before .args .room)) (w .last .1 .0) _ _ (j .result) (both (c .before .before .before .before .before .before .before)) (j .ensures) (w .result) (c .before .before .before .before .enum-told2 .given .1) (w .ensures)
+    rewrite-handed _ _ (now (c .before .before .before .before .before .before .before .before .before .before .before .before .before .args .room))
+    (w .last .1 .0) _ _ (j .result) (both (c .before .before .before .before .before .before .before)) (j .ensures) (w .result)
+    (c .before .before .before .before .enum-told2 .given .1) (w .ensures)
 
 returns-3 : tie.Need-returns-3
 returns-3 c =
@@ -35,7 +40,8 @@ returns-3 c =
 returns-4 : tie.Need-returns-4
 returns-4 c =
     let j = c .before .before .before .rewrite in
-    rewrite-refused _ _ _ _ _ _ (j .result) (both (c .before .before .before .before)) (j .ensures) (c .before .answer .given .0 .0) (c .before .answer .given .1) refl
+    rewrite-refused _ _ _ _ _ _ (j .result) (both (c .before .before .before .before)) (j .ensures) (c .before .answer .given .0 .0)
+    (c .before .answer .given .1) refl
 
 pub rewrite-packets-spec : {M : Type 1} → statement M
 rewrite-packets-spec = tie.close (tie.spec (λ c κs. search needs) (λ c. search needs) returns (λ c. search needs) (λ c κs. search needs)
