@@ -18,8 +18,8 @@ use Rattle.placing.specs.Placement.{Goes}
 use Rattle.placing.proofs.Fit.{Whole, whole-able, whole-root, whole-up, whole-down}
 use Rattle.placing.proofs.Sending.{task, reaches-whole}
 use Rattle.answers.specs.Working.{FitsAt, PlacedAt}
-use Rattle.answers.specs.Plan.{ToChildren, Led}
-use Rattle.answers.specs.Passes.{Upward, Allowed, Downward}
+use Rattle.answers.specs.inner.Plan.{ToChildren, Led}
+use Rattle.answers.specs.inner.Passes.{Upward, Allowed, Downward}
 use Rattle.answers.proofs.NodeFits.{fits-able, able-fits}
 
 module _ (A : Shape) (d : Document) (First : ℕ → Type 0) (va : ValidShape A) (vd : ValidDocument d) where

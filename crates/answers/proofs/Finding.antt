@@ -13,7 +13,7 @@ use Rattle.tables.specs.Pattern.{Shape, ValidShape}
 use Rattle.tables.proofs.Tests.{Tells}
 use Rattle.placing.specs.Answer.{Begins, In}
 use Rattle.answers.specs.Answers.{Found}
-use Rattle.answers.specs.Passes.{Upward, Marked, Ready}
+use Rattle.answers.specs.inner.Passes.{Upward, Marked, Ready}
 use Rattle.answers.proofs.Tested.{isIn, tells-in}
 
 -- what the list held before the second pass matters only in its length and past the nodes' entries

@@ -12,7 +12,7 @@ use Rattle.tables.specs.Bits.{bit, Marks}
 use Rattle.tables.specs.Tree.{Child}
 use Rattle.tables.specs.Pattern.{Shape, ValidShape}
 use Rattle.tables.proofs.Marks.{bit-cases, marks-bits, marks-to, marks-or, marks-and, marks-without, marks-lt}
-use Rattle.answers.specs.Plan.{Labelled, OfAxis, Near, Forks, Spread, ToParent, Led, lookUp, without, lackMask, fitOf, fitMask, FitsBy, PlanOf}
+use Rattle.answers.specs.inner.Plan.{Labelled, OfAxis, Near, Forks, Spread, ToParent, Led, lookUp, without, lackMask, fitOf, fitMask, FitsBy, PlanOf}
 use Rattle.answers.proofs.Lookups.{look-up-led}
 use Rattle.answers.proofs.Nearby.{shift-down, shift-all}
 

@@ -13,7 +13,7 @@ use lib.Seq.{getD-set-same, getD-set-other}
 use Rattle.tables.specs.Bits.{bit, Marks}
 use Rattle.tables.proofs.Bits.{bit-shr, bit-mod, bit-in, bit-least, set-here, set-other}
 use Rattle.tables.proofs.Marks.{marks-none, marks-to, marks-or, with-top, bits-lt}
-use Rattle.answers.specs.Plan.{Doubled, Spread, Led, lookUp}
+use Rattle.answers.specs.inner.Plan.{Doubled, Spread, Led, lookUp}
 use Rattle.tables.proofs.Gathered.{zeros-at}
 
 -- a table that is being doubled: u entries are written

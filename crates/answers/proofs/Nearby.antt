@@ -12,7 +12,7 @@ use Rattle.tables.specs.Tree.{Child}
 use Rattle.tables.specs.Pattern.{Shape, ValidShape}
 use Rattle.tables.proofs.Bits.{bit-zero, bit-and, bit-shr, bit-mod}
 use Rattle.tables.proofs.Marks.{marks-bits, marks-and}
-use Rattle.answers.specs.Plan.{Near, Forks, ToParent, ToChildren, Led}
+use Rattle.answers.specs.inner.Plan.{Near, Forks, ToParent, ToChildren, Led}
 
 -- a bit of a number shifted up by one
 pub bit-up : (x s : ℕ) → suc s < 64 → bit (x * 2 ^ 1 % 2 ^ 64) (suc s) ≡ bit x s

@@ -14,7 +14,7 @@ use Rattle.placing.specs.Placement.{Goes}
 use Rattle.placing.proofs.Fit.{Able, able, able-ok, able-next}
 use Rattle.placing.proofs.Sending.{task, reaches-able}
 use Rattle.answers.specs.Working.{FitsAt}
-use Rattle.answers.specs.Plan.{FitsBy}
+use Rattle.answers.specs.inner.Plan.{FitsBy}
 
 module _ (A : Shape) (d : Document) (va : ValidShape A) where
   pub fits-able : (s i : ℕ) → FitsAt A d i s → (s < A .tree .size) × Able (task A (nodesOf d)) s i

@@ -10,8 +10,8 @@ use lib.Seq.{getD-set-same, getD-set-other}
 use Rattle.tables.proofs.Choice.{below-or-at}
 use Rattle.tables.proofs.Tests.{passed, failed}
 use Rattle.placing.specs.Answer.{In, Ascending}
-use Rattle.answers.specs.Plan.{Says}
-use Rattle.answers.specs.Passes.{Marked}
+use Rattle.answers.specs.inner.Plan.{Says}
+use Rattle.answers.specs.inner.Passes.{Marked}
 
 -- what a flag says, after a test of its negation
 pub says-passed : (X : Type 0) (b : Bool) → not b ≡ false → Says b X → X

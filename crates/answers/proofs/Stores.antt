@@ -7,7 +7,7 @@ use native.Mathlib.Omega.{arith}
 use lib.Bits.{bitOr}
 use lib.ListN.{length, getD, set, drop, replicate, length-set, length-append, length-drop, length-replicate, getD-replicate, List·getD-append}
 use lib.Seq.{getD-set-same, getD-set-other, getD-append-add, getD-drop}
-use Rattle.answers.specs.Passes.{Handed}
+use Rattle.answers.specs.inner.Passes.{Handed}
 
 -- a node's two entries stored
 abbrev stored : List ℕ → ℕ → ℕ → ℕ → List ℕ

@@ -15,8 +15,8 @@ use Rattle.tables.specs.Document.{Document, nodeCount, nodesOf, ValidDocument}
 use Rattle.tables.specs.Pattern.{Shape}
 use Rattle.tables.proofs.Marks.{marks-to, marks-or, marks-and, marks-none, bits-lt}
 use Rattle.answers.specs.Working.{FitsAt, PlacedAt}
-use Rattle.answers.specs.Plan.{OfAxis, ToChildren, Led, lookUp, ChildPlan, PassedOn}
-use Rattle.answers.specs.Passes.{Allowed, Downward}
+use Rattle.answers.specs.inner.Plan.{OfAxis, ToChildren, Led, lookUp, ChildPlan, PassedOn}
+use Rattle.answers.specs.inner.Passes.{Allowed, Downward}
 use Rattle.answers.proofs.Lookups.{look-up-led}
 use Rattle.answers.proofs.Nearby.{shift-up}
 use Rattle.answers.proofs.Downward.{node-placed, node-allowed, root-placed, root-allowed, down-turn}

@@ -17,8 +17,8 @@ use Rattle.tables.proofs.Marks.{marks-to, marks-or, marks-none}
 use Rattle.tables.proofs.Rules.{document-ordered}
 use Rattle.tables.proofs.Trees.{below-lt, below-top, top-below}
 use Rattle.answers.specs.Working.{FitsAt}
-use Rattle.answers.specs.Plan.{FitsBy}
-use Rattle.answers.specs.Passes.{FitsAtChild, FitsUnder, Upward, Handed}
+use Rattle.answers.specs.inner.Plan.{FitsBy}
+use Rattle.answers.specs.inner.Passes.{FitsAtChild, FitsUnder, Upward, Handed}
 use Rattle.answers.proofs.NodeFits.{node-fits}
 
 module _ (A : Shape) (d : Document) (va : ValidShape A) (vd : ValidDocument d) (seed : ℕ) where

@@ -2,7 +2,7 @@
 ghost use mathlib.Core.Path.{_≡_};
 ghost use Prim.Native.Nat.{ℕ, _*_, _≤_, _<_};
 ghost use lib.ListN.{length, getD};
-ghost use Rattle.tables.specs.Document.{ValidDocument};
+ghost use Rattle.tables.specs.Document.{ValidDocument, documentOf};
 ghost use Rattle.tables.specs.Pattern.{shapeOf, ValidPattern};
 ghost use Rattle.placing.specs.Answer.{Begins, In};
 ghost use Rattle.answers.specs.Answers.{Found, FindsAnswers, FindsStarted};
@@ -18,9 +18,9 @@ use tables::Refusal;
 // The passes of the plain form, over tables and lists that are right.
 fn find(p: Pattern, parents: &[u16], labels: &[u16], list: &mut [u16], work: &mut [u64]) -> usize
     requires { ⌜ ValidPattern p ⌝ }
-    requires { ⌜ ValidDocument (record { parents = now parents; labels = now labels }) ⌝ }
+    requires { ⌜ ValidDocument (documentOf (now parents) (now labels)) ⌝ }
     requires { ⌜ (length (now parents) ≤ length (now list)) × (2 * length (now parents) ≤ length (now work)) ⌝ }
-    ensures { λ r. ⌜ Found (shapeOf p) (record { parents = now (parents .entry); labels = now (labels .entry) }) (Begins (shapeOf p)) (now (list .entry))
+    ensures { λ r. ⌜ Found (shapeOf p) (documentOf (now (parents .entry)) (now (labels .entry))) (Begins (shapeOf p)) (now (list .entry))
         (now (work .entry)) r (now (list .exit)) (now (work .exit)) ⌝ }
 {
     let seed = p.axis[0] as u64;
@@ -39,10 +39,10 @@ fn find_started(
     work: &mut [u64],
 ) -> usize
     requires { ⌜ ValidPattern p ⌝ }
-    requires { ⌜ ValidDocument (record { parents = now parents; labels = now labels }) ⌝ }
+    requires { ⌜ ValidDocument (documentOf (now parents) (now labels)) ⌝ }
     requires { ⌜ ((k : ℕ) → k < length (now starts) → getD (now starts) k 0 < length (now parents)) ⌝ }
     requires { ⌜ (length (now parents) ≤ length (now list)) × (2 * length (now parents) ≤ length (now work)) ⌝ }
-    ensures { λ r. ⌜ Found (shapeOf p) (record { parents = now (parents .entry); labels = now (labels .entry) }) (In (now (starts .entry)))
+    ensures { λ r. ⌜ Found (shapeOf p) (documentOf (now (parents .entry)) (now (labels .entry))) (In (now (starts .entry)))
         (now (list .entry)) (now (work .entry)) r (now (list .exit)) (now (work .exit)) ⌝ }
 {
     passes::rise(p, parents, labels, 0, work);
@@ -60,7 +60,7 @@ pub fn answers(
     list: &mut [u16],
     work: &mut [u64],
 ) -> Counted
-    ensures { λ r. ⌜ FindsAnswers p (record { parents = now (parents .entry); labels = now (labels .entry) }) (now (list .entry)) (now (work .entry)) r
+    ensures { λ r. ⌜ FindsAnswers p (documentOf (now (parents .entry)) (now (labels .entry))) (now (list .entry)) (now (work .entry)) r
         (now (list .exit)) (now (work .exit)) ⌝ }
 {
     if let Checked::Refused(r) = tables::check_pattern(p) {
@@ -89,7 +89,7 @@ pub fn started(
     list: &mut [u16],
     work: &mut [u64],
 ) -> Counted
-    ensures { λ r. ⌜ FindsStarted p (record { parents = now (parents .entry); labels = now (labels .entry) }) (now (starts .entry)) (now (list .entry))
+    ensures { λ r. ⌜ FindsStarted p (documentOf (now (parents .entry)) (now (labels .entry))) (now (starts .entry)) (now (list .entry))
         (now (work .entry)) r (now (list .exit)) (now (work .exit)) ⌝ }
 {
     if let Checked::Refused(r) = tables::check_pattern(p) {

@@ -5,12 +5,12 @@ ghost use mathlib.Core.List.{List, _++_};
 ghost use Prim.Native.Nat.{ℕ, _+_, _*_, _-_, _≤_, _<_};
 ghost use lib.ListN.{length, getD, drop, set, replicate};
 ghost use Rattle.tables.specs.Bits.{Marks};
-ghost use Rattle.answers.specs.Plan.{Says, fitMask, PlanOf, ChildPlan, PassedOn};
+ghost use Rattle.answers.specs.inner.Plan.{Says, fitMask, PlanOf, ChildPlan, PassedOn};
 ghost use Rattle.answers.specs.Answers.{Found};
-ghost use Rattle.answers.specs.Passes.{Upward, Handed, Marked, Ready, Downward, Noted, StartsRight};
+ghost use Rattle.answers.specs.inner.Passes.{Upward, Handed, Marked, Ready, Downward, Noted, StartsRight};
 ghost use Rattle.answers.specs.Working.{PlacedAt};
 ghost use Rattle.placing.specs.Answer.{In};
-ghost use Rattle.tables.specs.Document.{ValidDocument};
+ghost use Rattle.tables.specs.Document.{ValidDocument, documentOf};
 ghost use Rattle.tables.specs.Pattern.{Shape, shapeOf, ValidPattern};
 use crate::plan;
 use tables::Pattern;
@@ -151,11 +151,11 @@ fn lift(
     seed: u64,
     work: &mut [u64],
 )
-    requires { ⌜ ValidDocument (record { parents = now parents; labels = now labels }) ⌝ }
+    requires { ⌜ ValidDocument (documentOf (now parents) (now labels)) ⌝ }
     requires { ⌜ 2 * length (now parents) ≤ length (now work) ⌝ }
     requires { ⌜ ((q : ℕ) → q < 2 * length (now parents) → getD (now work) q 0 ≡ 0) ⌝ }
     ensures { λ _. ⌜ ((A : Shape) → PlanOf A (now (low .entry)) (now (high .entry)) (now (lack .entry)) ch de near forks → Upward A
-        (record { parents = now (parents .entry); labels = now (labels .entry) }) seed 0 (now (work .entry)) (now (work .exit))) ⌝ }
+        (documentOf (now (parents .entry)) (now (labels .entry))) seed 0 (now (work .entry)) (now (work .exit))) ⌝ }
 {
     let mut i = parents.len();
     while 1 < i {
@@ -181,9 +181,9 @@ fn lift(
 // The first pass: which steps fit at each node, with the seed in every second entry.
 pub(crate) fn rise(p: Pattern, parents: &[u16], labels: &[u16], seed: u64, work: &mut [u64])
     requires { ⌜ ValidPattern p ⌝ }
-    requires { ⌜ ValidDocument (record { parents = now parents; labels = now labels }) ⌝ }
+    requires { ⌜ ValidDocument (documentOf (now parents) (now labels)) ⌝ }
     requires { ⌜ 2 * length (now parents) ≤ length (now work) ⌝ }
-    ensures { λ _. ⌜ Upward (shapeOf p) (record { parents = now (parents .entry); labels = now (labels .entry) }) seed 0 (now (work .entry))
+    ensures { λ _. ⌜ Upward (shapeOf p) (documentOf (now (parents .entry)) (now (labels .entry))) seed 0 (now (work .entry))
         (now (work .exit)) ⌝ }
 {
     let mut low = [0u64; 256];
@@ -249,10 +249,10 @@ fn turn_down(
     requires { ⌜ (i < length (now parents)) × (i < 2048) × (2 * i + 1 < length (now work)) × (length (now allowed) ≡ 2048) ⌝ }
     requires { ⌜ (0 < i → getD (now parents) i 0 < i) ⌝ }
     ensures sizes { λ _. ⌜ (length (now (work .exit)) ≡ length (now (work .entry))) × (length (now (allowed .exit)) ≡ length (now (allowed .entry))) ⌝ }
-    ensures turn { λ r. ⌜ ((A : Shape) (labels before : List ℕ) → ValidDocument (record { parents = now (parents .entry); labels = labels }) → ChildPlan A
-        (now (kids .entry)) de near forks → Downward A (record { parents = now (parents .entry); labels = labels }) (Marked before) i before
-        (now (work .entry)) (now (allowed .entry)) → Downward A (record { parents = now (parents .entry); labels = labels }) (Marked before) (i + 1) before
-        (now (work .exit)) (now (allowed .exit)) × Marks r (PlacedAt A (record { parents = now (parents .entry); labels = labels }) (Marked before) i)) ⌝ }
+    ensures turn { λ r. ⌜ ((A : Shape) (labels before : List ℕ) → ValidDocument (documentOf (now (parents .entry)) labels) → ChildPlan A
+        (now (kids .entry)) de near forks → Downward A (documentOf (now (parents .entry)) labels) (Marked before) i before
+        (now (work .entry)) (now (allowed .entry)) → Downward A (documentOf (now (parents .entry)) labels) (Marked before) (i + 1) before
+        (now (work .exit)) (now (allowed .exit)) × Marks r (PlacedAt A (documentOf (now (parents .entry)) labels) (Marked before) i)) ⌝ }
 {
     let over = above(allowed, parents, i);
     let whole = work[2 * i] & (over | work[2 * i + 1]);
@@ -274,9 +274,9 @@ fn lower(
 ) -> usize
     requires { ⌜ (output < 64) × (length (now parents) ≤ 2048) × (2 * length (now parents) ≤ length (now work)) × (length (now parents) ≤ length (now list)) ⌝ }
     requires { ⌜ ((i : ℕ) → 0 < i → i < length (now parents) → getD (now parents) i 0 < i) ⌝ }
-    ensures { λ r. ⌜ ((A : Shape) (labels : List ℕ) → ValidDocument (record { parents = now (parents .entry); labels = labels }) → ChildPlan A
-        (now (kids .entry)) de near forks → A .output ≡ output → Ready A (record { parents = now (parents .entry); labels = labels }) (now (work .entry)) →
-        Found A (record { parents = now (parents .entry); labels = labels }) (Marked (now (work .entry))) (now (list .entry)) (now (work .entry)) r
+    ensures { λ r. ⌜ ((A : Shape) (labels : List ℕ) → ValidDocument (documentOf (now (parents .entry)) labels) → ChildPlan A
+        (now (kids .entry)) de near forks → A .output ≡ output → Ready A (documentOf (now (parents .entry)) labels) (now (work .entry)) →
+        Found A (documentOf (now (parents .entry)) labels) (Marked (now (work .entry))) (now (list .entry)) (now (work .entry)) r
         (now (list .exit)) (now (work .exit))) ⌝ }
 {
     let mut allowed = [0u64; 2048];
@@ -300,10 +300,10 @@ pub(crate) fn descend(
     list: &mut [u16],
 ) -> usize
     requires { ⌜ ValidPattern p ⌝ }
-    requires { ⌜ ValidDocument (record { parents = now parents; labels = now labels }) ⌝ }
+    requires { ⌜ ValidDocument (documentOf (now parents) (now labels)) ⌝ }
     requires { ⌜ length (now parents) ≤ length (now list) ⌝ }
-    requires { ⌜ Ready (shapeOf p) (record { parents = now parents; labels = now labels }) (now work) ⌝ }
-    ensures { λ r. ⌜ Found (shapeOf p) (record { parents = now (parents .entry); labels = now (labels .entry) }) (Marked (now (work .entry)))
+    requires { ⌜ Ready (shapeOf p) (documentOf (now parents) (now labels)) (now work) ⌝ }
+    ensures { λ r. ⌜ Found (shapeOf p) (documentOf (now (parents .entry)) (now (labels .entry))) (Marked (now (work .entry)))
         (now (list .entry)) (now (work .entry)) r (now (list .exit)) (now (work .exit)) ⌝ }
 {
     let mut kids = [0u64; 2048];

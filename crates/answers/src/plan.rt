@@ -6,7 +6,7 @@ ghost use lib.Bits.{bitOr};
 ghost use Rattle.tables.specs.Bits.{bit, Marks};
 ghost use Rattle.tables.specs.Tree.{Child};
 ghost use Rattle.tables.specs.Pattern.{shapeOf, ValidPattern};
-ghost use Rattle.answers.specs.Plan.{Says, Labelled, OfAxis, Near, Forks, Doubled, Spread, ToParent, ToChildren, lookUp, lackMask, fitMask};
+ghost use Rattle.answers.specs.inner.Plan.{Says, Labelled, OfAxis, Near, Forks, Doubled, Spread, ToParent, ToChildren, lookUp, lackMask, fitMask};
 use tables::Pattern;
 
 // The number with bit s alone.

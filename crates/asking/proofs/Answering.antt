@@ -21,8 +21,8 @@ use Rattle.rewriting.specs.Rewriting.{rewritingChecks, AnswersRewriting}
 use Rattle.rewriting.specs.declared.Rewriting.the-variants as rewriting
 use Rattle.asking.specs.Text.{line, viewWord, queryWord}
 use Rattle.asking.specs.Replies.{Replies, Printed, ReplyOf}
-use Rattle.asking.specs.Writing.{Wrote}
-use Rattle.asking.specs.Answering.{Finds, WroteThird, WroteAnswers}
+use Rattle.asking.specs.inner.Writing.{Wrote}
+use Rattle.asking.specs.inner.Answering.{Finds, WroteThird, WroteAnswers}
 use Rattle.asking.proofs.Writing.{wrote-then, line-short}
 
 -- every refusal has a number of one digit

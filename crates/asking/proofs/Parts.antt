@@ -7,6 +7,7 @@ use native.Mathlib.Omega.{arith}
 use native.Mathlib.Decide.{decLt}
 use lib.ListN.{length, getD, take, drop, length-drop}
 use lib.Seq.{take-all, take-at, length-take-le}
+use Rattle.tables.specs.Document.{documentOf}
 use Rattle.tables.specs.Pattern.{patternOf, ValidShape, ValidPattern}
 use Rattle.tables.specs.Refusal.{Check, Passes, Refuses}
 use Rattle.tables.specs.declared.Refusal.{Refusal}
@@ -85,9 +86,9 @@ rules-pass bs a b p = (p .0, (p .1 .0, (p .1 .1 .0, (p .1 .1 .1 .0, tt))))
 
 -- the fronts of the two lists that reading filled are the document
 pub fronts : (bs xs ys d e : List ℕ) (n : ℕ) → n ≡ nodesIn bs → xs ≡ packetDocument bs .parents ++ d → ys ≡ packetDocument bs .labels ++ e
-    → record { parents = take n xs; labels = take n ys } ≡ packetDocument bs
+    → documentOf (take n xs) (take n ys) ≡ packetDocument bs
 unfolding packetDocument
-fronts bs xs ys d e n h f g = ap₂ (λ x y. record { parents = x; labels = y })
+fronts bs xs ys d e n h f g = ap₂ (λ x y. documentOf x y)
     (ap (take n) f ∙ take-at (packetDocument bs .parents) d n (column-length (λ i. half bs (3 + 4 * i)) (nodesIn bs) ∙ sym h))
     (ap (take n) g ∙ take-at (packetDocument bs .labels) e n (column-length (λ i. half bs (5 + 4 * i)) (nodesIn bs) ∙ sym h))
 

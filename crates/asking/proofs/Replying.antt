@@ -18,8 +18,8 @@ use Rattle.packets.specs.DocumentPacket.{ReadsDocument, documentRules}
 use Rattle.asking.specs.Text.{documentWord, viewWord, queryWord, inputWord, refusedLine}
 use Rattle.asking.specs.Parts.{packetAt, nextAt, documentPart}
 use Rattle.asking.specs.Replies.{documentIn, document, view, query, extra, answered, Printed}
-use Rattle.asking.specs.Writing.{Wrote}
-use Rattle.asking.specs.Answering.{WroteAnswers}
+use Rattle.asking.specs.inner.Writing.{Wrote}
+use Rattle.asking.specs.inner.Answering.{WroteAnswers}
 use Rattle.asking.proofs.Parts.{first-part, rules-refuse, packet-valid}
 use Rattle.asking.proofs.Answering.{printed}
 

@@ -10,7 +10,7 @@ use lib.Seq.{set-split, length-take-le, take-suc, take-all, append-snoc}
 use Rattle.tables.specs.Column.{blocks}
 use Rattle.tables.proofs.Columns.{blocks-fit, put-block}
 use Rattle.asking.specs.Text.{item, refusedWord, spaced, line, refusedLine}
-use Rattle.asking.specs.Writing.{Wrote}
+use Rattle.asking.specs.inner.Writing.{Wrote}
 use Rattle.asking.proofs.Decimal.{length-4}
 
 -- nothing is written

@@ -2,5 +2,5 @@
 pub mod Text
 pub mod Parts
 pub mod Replies
-pub mod Writing
-pub mod Answering
+-- what only private functions cite: nobody has to read it
+pub mod inner

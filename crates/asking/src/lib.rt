@@ -2,7 +2,7 @@
 ghost use Prim.Native.Nat.{_+_, _≤_};
 ghost use mathlib.Core.Path.{_≡_};
 ghost use lib.ListN.{length, getD};
-ghost use Rattle.tables.specs.Document.{ValidDocument};
+ghost use Rattle.tables.specs.Document.{ValidDocument, documentOf};
 ghost use Rattle.tables.specs.Pattern.{shapeOf, ValidPattern};
 ghost use Rattle.tables.specs.Refusal.{number, Passes};
 ghost use Rattle.packets.specs.PatternPacket.{ReadsPattern};
@@ -11,7 +11,7 @@ ghost use Rattle.placing.specs.Answer.{Answer, Started, In, StartList};
 ghost use Rattle.asking.specs.Text.{rewritingWord};
 ghost use Rattle.asking.specs.Parts.{packetAt, nextAt, documentPart};
 ghost use Rattle.asking.specs.Replies.{documentIn, Printed, ReplyOf};
-ghost use Rattle.asking.specs.Answering.{Finds, WroteLine, WroteThird, WroteAnswers};
+ghost use Rattle.asking.specs.inner.Answering.{Finds, WroteLine, WroteThird, WroteAnswers};
 
 mod text;
 
@@ -57,9 +57,9 @@ fn pattern_at(input: &[u8], o: usize) -> PatternRead
 // The answers of a pattern at the front of `list`, counted.
 fn find(p: Pattern, parents: &[u16], labels: &[u16], list: &mut [u16]) -> usize
     requires { ⌜ ValidPattern p ⌝ }
-    requires { ⌜ ValidDocument (record { parents = now parents; labels = now labels }) ⌝ }
+    requires { ⌜ ValidDocument (documentOf (now parents) (now labels)) ⌝ }
     requires { ⌜ 2048 ≤ length (now list) ⌝ }
-    ensures { λ r. ⌜ Finds (Answer (shapeOf p) (record { parents = now (parents .entry); labels = now (labels .entry) })) r (now (list .exit)) ⌝ }
+    ensures { λ r. ⌜ Finds (Answer (shapeOf p) (documentOf (now (parents .entry)) (now (labels .entry)))) r (now (list .exit)) ⌝ }
 {
     let mut work = [0u64; 4096];
     match answers::answers(p, parents, labels, list, &mut work) {
@@ -77,11 +77,11 @@ fn find_started(
     list: &mut [u16],
 ) -> usize
     requires { ⌜ ValidPattern p ⌝ }
-    requires { ⌜ ValidDocument (record { parents = now parents; labels = now labels }) ⌝ }
+    requires { ⌜ ValidDocument (documentOf (now parents) (now labels)) ⌝ }
     requires { ⌜ getD (p .axis) 0 0 ≡ 0 ⌝ }
-    requires { ⌜ StartList (record { parents = now parents; labels = now labels }) (now starts) ⌝ }
+    requires { ⌜ StartList (documentOf (now parents) (now labels)) (now starts) ⌝ }
     requires { ⌜ 2048 ≤ length (now list) ⌝ }
-    ensures { λ r. ⌜ Finds (Started (In (now (starts .entry))) (shapeOf p) (record { parents = now (parents .entry); labels = now (labels .entry) })) r
+    ensures { λ r. ⌜ Finds (Started (In (now (starts .entry))) (shapeOf p) (documentOf (now (parents .entry)) (now (labels .entry)))) r
         (now (list .exit)) ⌝ }
 {
     let mut work = [0u64; 4096];
@@ -101,11 +101,11 @@ fn put_started(
     out: &mut [u8],
 ) -> usize
     requires { ⌜ ValidPattern e ⌝ }
-    requires { ⌜ ValidDocument (record { parents = now parents; labels = now labels }) ⌝ }
+    requires { ⌜ ValidDocument (documentOf (now parents) (now labels)) ⌝ }
     requires { ⌜ getD (e .axis) 0 0 ≡ 0 ⌝ }
-    requires { ⌜ StartList (record { parents = now parents; labels = now labels }) (now starts) ⌝ }
+    requires { ⌜ StartList (documentOf (now parents) (now labels)) (now starts) ⌝ }
     requires { ⌜ at + 10256 ≤ length (now out) ⌝ }
-    ensures { λ r. ⌜ WroteLine (Started (In (now (starts .entry))) (shapeOf e) (record { parents = now (parents .entry); labels = now (labels .entry) }))
+    ensures { λ r. ⌜ WroteLine (Started (In (now (starts .entry))) (shapeOf e) (documentOf (now (parents .entry)) (now (labels .entry))))
         rewritingWord (now (out .entry)) at r (now (out .exit)) ⌝ }
 {
     let mut list = [0u16; 2048];
@@ -125,10 +125,10 @@ fn put_third(
 ) -> usize
     requires { ⌜ ValidPattern q ⌝ }
     requires { ⌜ ValidPattern v ⌝ }
-    requires { ⌜ ValidDocument (record { parents = now parents; labels = now labels }) ⌝ }
-    requires { ⌜ StartList (record { parents = now parents; labels = now labels }) (now starts) ⌝ }
+    requires { ⌜ ValidDocument (documentOf (now parents) (now labels)) ⌝ }
+    requires { ⌜ StartList (documentOf (now parents) (now labels)) (now starts) ⌝ }
     requires { ⌜ at + 10256 ≤ length (now out) ⌝ }
-    ensures { λ r. ⌜ WroteThird (record { parents = now (parents .entry); labels = now (labels .entry) }) q v (now (starts .entry)) (now (out .entry)) at r
+    ensures { λ r. ⌜ WroteThird (documentOf (now (parents .entry)) (now (labels .entry))) q v (now (starts .entry)) (now (out .entry)) at r
         (now (out .exit)) ⌝ }
 {
     let r = rewriting::rewrite(q, v);
@@ -144,9 +144,9 @@ fn put_third(
 fn put_answers(q: Pattern, v: Pattern, parents: &[u16], labels: &[u16], out: &mut [u8]) -> usize
     requires { ⌜ ValidPattern q ⌝ }
     requires { ⌜ ValidPattern v ⌝ }
-    requires { ⌜ ValidDocument (record { parents = now parents; labels = now labels }) ⌝ }
+    requires { ⌜ ValidDocument (documentOf (now parents) (now labels)) ⌝ }
     requires { ⌜ 32768 ≤ length (now out) ⌝ }
-    ensures { λ r. ⌜ WroteAnswers (record { parents = now (parents .entry); labels = now (labels .entry) }) q v (now (out .entry)) r (now (out .exit)) ⌝ }
+    ensures { λ r. ⌜ WroteAnswers (documentOf (now (parents .entry)) (now (labels .entry))) q v (now (out .entry)) r (now (out .exit)) ⌝ }
 {
     let mut views = [0u16; 2048];
     let mut queries = [0u16; 2048];
@@ -163,7 +163,7 @@ fn put_answers(q: Pattern, v: Pattern, parents: &[u16], labels: &[u16], out: &mu
 fn past_document(input: &[u8], a: usize, parents: &[u16], labels: &[u16], out: &mut [u8]) -> usize
     requires { ⌜ a ≡ nextAt (now input) 0 ⌝ }
     requires { ⌜ Passes (documentRules (documentPart (now input))) ⌝ }
-    requires { ⌜ record { parents = now parents; labels = now labels } ≡ documentIn (now input) ⌝ }
+    requires { ⌜ documentOf (now parents) (now labels) ≡ documentIn (now input) ⌝ }
     requires { ⌜ 32768 ≤ length (now out) ⌝ }
     ensures { λ r. ⌜ Printed (now (input .entry)) (now (out .entry)) r (now (out .exit)) ⌝ }
 {

@@ -3,7 +3,7 @@ ghost use Prim.Native.Nat.{_+_, _≤_};
 ghost use mathlib.Core.List.{[], _∷_};
 ghost use lib.ListN.{length};
 ghost use Rattle.asking.specs.Text.{decimal, item, spaced, line, refusedLine};
-ghost use Rattle.asking.specs.Writing.{Wrote};
+ghost use Rattle.asking.specs.inner.Writing.{Wrote};
 
 // One byte.
 fn put_byte(out: &mut [u8], at: usize, x: u8) -> usize

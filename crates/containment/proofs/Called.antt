@@ -5,7 +5,7 @@ use mathlib.Core.List.{List}
 use native.Mathlib.Omega.{arith}
 use lib.ListN.{take, drop}
 use lib.Seq.{take-at}
-use Rattle.tables.specs.Document.{Document, ValidDocument}
+use Rattle.tables.specs.Document.{Document, ValidDocument, documentOf}
 use Rattle.tables.specs.Pattern.{shapeOf, ValidPattern}
 use Rattle.tables.specs.declared.NodeNo.{NodeNo}
 use Rattle.tables.specs.declared.Pattern.{Pattern}
@@ -21,7 +21,7 @@ use Rattle.containment.proofs.Written.{parents-length, labels-length}
 
 -- the first m entries of two lists, as a document
 abbrev pub frontOf : ℕ → List ℕ → List ℕ → Document
-frontOf m parents labels = record { parents = take m parents; labels = take m labels }
+frontOf m parents labels = documentOf (take m parents) (take m labels)
 
 -- a document that shows that A is not contained in B: it obeys the rules, and A answers the node i on it while B does not
 pub record Shows (A B : Pattern) (d : Document) (i : ℕ) : Type 0 where
@@ -53,7 +53,7 @@ module _ (A B : Pattern) (parents₀ labels₀ : List ℕ) where
       let ls : take m labels ≡ witnessOf (shapeOf A) (x .label) .labels
       = ap (take m) (x .label-list) ∙ take-at (witnessOf (shapeOf A) (x .label) .labels) (drop m labels₀) m
       (labels-length (shapeOf A) (x .label) (axes va) n (omega arith) ∙ sym (x .count)) in
-      let d : witnessOf (shapeOf A) (x .label) ≡ frontOf m parents labels = λ k. record { parents = sym ps k; labels = sym ls k } in
+      let d : witnessOf (shapeOf A) (x .label) ≡ frontOf m parents labels = λ k. documentOf (sym ps k) (sym ls k) in
       subst (λ (j : ℕ). Shows A B (frontOf m parents labels) j) (sym (x .node))
       (subst (λ (y : Document). Shows A B y (answerNode (shapeOf A))) d (record {
         valid = witness-valid (shapeOf A) (x .label) va (x .fresh .label);

@@ -18,7 +18,7 @@ use Rattle.placing.proofs.Fit.{Able, able-ok, able-next}
 use Rattle.placing.proofs.Least.{greedy-least}
 use Rattle.containment.specs.Mapping.{BeginsIn, LeastMap}
 use Rattle.containment.specs.Containment.{stepNo, mappingArray}
-use Rattle.containment.specs.Feasible.{FitsIn, FitTable, Picks, ImageAt}
+use Rattle.containment.specs.inner.Feasible.{FitsIn, FitTable, Picks, ImageAt}
 use Rattle.containment.proofs.Deciding.{mapTask, maps-fit, fit-maps}
 use Rattle.containment.proofs.StepFits.{fits-able, able-fits}
 use Rattle.containment.proofs.Images.{pick-found, pick-some}

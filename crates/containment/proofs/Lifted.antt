@@ -17,7 +17,7 @@ use Rattle.tables.specs.Pattern.{Shape, ValidShape}
 use Rattle.tables.proofs.Marks.{marks-to, marks-or, marks-none}
 use Rattle.tables.proofs.Rules.{shape-ordered}
 use Rattle.tables.proofs.Trees.{below-lt, below-top, top-below}
-use Rattle.containment.specs.Feasible.{maskFor, FitsBy, FitsIn}
+use Rattle.containment.specs.inner.Feasible.{maskFor, FitsBy, FitsIn}
 use Rattle.containment.proofs.StepFits.{step-fits}
 
 -- step t of B fits at a child of s that is k or later, along a child edge

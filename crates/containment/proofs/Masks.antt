@@ -13,8 +13,8 @@ use Rattle.tables.specs.Tree.{Child}
 use Rattle.tables.specs.Pattern.{Shape}
 use Rattle.tables.proofs.Bits.{bit-pow, some-bit}
 use Rattle.tables.proofs.Marks.{bit-cases, marks-none, marks-bits, marks-to, marks-one, marks-or, marks-and, marks-without, marks-shr}
-use Rattle.containment.specs.Feasible.{maskFor, OfLabel, Lacks, FitsBy}
-use Rattle.containment.specs.Lookup.{without, OfAxis, Next, LaterChild, Reached, PlanOf}
+use Rattle.containment.specs.inner.Feasible.{maskFor, OfLabel, Lacks, FitsBy}
+use Rattle.containment.specs.inner.Lookup.{without, OfAxis, Next, LaterChild, Reached, PlanOf}
 use Rattle.containment.proofs.Planned.{bit-some}
 
 module _ (B : Shape) (c d : ℕ) where

@@ -17,8 +17,8 @@ use Rattle.tables.proofs.Marks.{marks-none, marks-to, marks-bits, marks-or, mar
 use Rattle.tables.proofs.Rules.{shape-ordered}
 use Rattle.tables.proofs.Trees.{below-lt}
 use Rattle.tables.proofs.Gathered.{Keyed, keyed-all}
-use Rattle.containment.specs.Feasible.{OfLabel}
-use Rattle.containment.specs.Lookup.{without, Labelled, Next, LaterChild, Grouped, Groups, Reached}
+use Rattle.containment.specs.inner.Feasible.{OfLabel}
+use Rattle.containment.specs.inner.Lookup.{without, Labelled, Next, LaterChild, Grouped, Groups, Reached}
 
 -- a number by its three parts
 parts-same : (a l : ℕ) → a % 64 ≡ l % 64 → a / 64 % 64 ≡ l / 64 % 64 → a / 4096 ≡ l / 4096 → a ≡ l

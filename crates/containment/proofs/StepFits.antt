@@ -11,7 +11,7 @@ use Rattle.tables.proofs.Marks.{marks-to}
 use Rattle.tables.proofs.Rules.{shape-ordered}
 use Rattle.placing.specs.Placement.{Goes}
 use Rattle.placing.proofs.Fit.{Able, able, able-ok, able-next, fit-able, able-fit}
-use Rattle.containment.specs.Feasible.{maskFor, FitsBy, FitsIn}
+use Rattle.containment.specs.inner.Feasible.{maskFor, FitsBy, FitsIn}
 use Rattle.containment.proofs.Deciding.{mapTask}
 
 module _ (B A : Shape) (vb : ValidShape B) where

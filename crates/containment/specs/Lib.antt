@@ -3,6 +3,5 @@ pub mod Mapping
 pub mod Witness
 pub mod Containment
 pub mod Equality
-pub mod Verdict
-pub mod Feasible
-pub mod Lookup
+-- what only private functions cite: nobody has to read it
+pub mod inner

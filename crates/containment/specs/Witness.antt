@@ -17,7 +17,7 @@ use mathlib.Core.Logic.{_⊎_}
 use mathlib.Core.List.{List, [], _∷_}
 use Rattle.tables.specs.Tree.{IsLabel}
 use Rattle.tables.specs.Column.{blocks}
-use Rattle.tables.specs.Document.{Document}
+use Rattle.tables.specs.Document.{Document, documentOf}
 use Rattle.tables.specs.Pattern.{Shape}
 
 -- label l stands at a step of A
@@ -66,7 +66,7 @@ labelsFor A l s = byAxis (A .axis s) (A .label s ∷ []) (l ∷ A .label s ∷ [
 
 -- the witness of A with the fresh label l: what each step writes, in the order of the steps
 unfoldable pub witnessOf : Shape → ℕ → Document
-witnessOf A l = record { parents = blocks (parentsFor A) (A .tree .size); labels = blocks (labelsFor A l) (A .tree .size) }
+witnessOf A l = documentOf (blocks (parentsFor A) (A .tree .size)) (blocks (labelsFor A l) (A .tree .size))
 
 -- the answer node: the one written for the output step
 abbrev pub answerNode : Shape → ℕ

@@ -6,7 +6,7 @@ ghost use lib.Dec.{T};
 ghost use lib.ListN.{getD};
 ghost use Rattle.tables.specs.Bits.{bit};
 ghost use Rattle.tables.specs.Pattern.{Shape, shapeOf, ValidPattern};
-ghost use Rattle.containment.specs.Feasible.{FitsIn, FitTable, Picks, Listed, ImageAt, Chosen};
+ghost use Rattle.containment.specs.inner.Feasible.{FitsIn, FitTable, Picks, Listed, ImageAt, Chosen};
 ghost use Rattle.containment.specs.Mapping.{BeginsIn};
 use crate::fitting;
 use tables::Pattern;

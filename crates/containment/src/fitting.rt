@@ -8,8 +8,8 @@ ghost use lib.Bits.{bitOr};
 ghost use Rattle.tables.specs.Bits.{bit, Marks};
 ghost use Rattle.tables.specs.Tree.{Child};
 ghost use Rattle.tables.specs.Pattern.{Shape, shapeOf, ValidPattern};
-ghost use Rattle.containment.specs.Feasible.{maskFor, OfLabel, Lacks, FitsBy, FitTable};
-ghost use Rattle.containment.specs.Lookup.{Labelled, OfAxis, Next, Groups, Reached, PlanOf};
+ghost use Rattle.containment.specs.inner.Feasible.{maskFor, OfLabel, Lacks, FitsBy, FitTable};
+ghost use Rattle.containment.specs.inner.Lookup.{Labelled, OfAxis, Next, Groups, Reached, PlanOf};
 use tables::Pattern;
 
 // The number with bit t alone.

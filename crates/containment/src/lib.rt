@@ -9,9 +9,9 @@ ghost use Rattle.tables.specs.Pattern.{shapeOf, ValidPattern};
 ghost use Rattle.containment.specs.Mapping.{Contained};
 ghost use Rattle.containment.specs.Containment.{mappingArray, DecidesContainment};
 ghost use Rattle.containment.specs.Equality.{DecidesEquality};
-ghost use Rattle.containment.specs.Verdict.{Decides};
+ghost use Rattle.containment.specs.inner.Verdict.{Decides};
 ghost use Rattle.containment.specs.Witness.{Stands};
-ghost use Rattle.containment.specs.Feasible.{FreshOr0};
+ghost use Rattle.containment.specs.inner.Feasible.{FreshOr0};
 
 mod choosing;
 mod fitting;

@@ -1,13 +1,13 @@
 -- Flight line seven (docs/RULES.md, "Flight line seven"): the document, the patterns, and the table of cases 1 to 11, with the slip of a cut at the first
 -- label. Labels: 1 line, 2 strip, 3 frame, 4 pose, 5 control. Assumes nothing.
 use mathlib.Core.List.{List, [], _∷_}
-use Rattle.tables.specs.Document.{Document}
+use Rattle.tables.specs.Document.{Document, documentOf}
 use Rattle.tables.specs.declared.Pattern.{Pattern}
 use Rattle.flightline.specs.Fact.{pattern, Fact, answers, packet, working, contained, apart, equal, handed, started, nothing}
 
 -- the flight line
 unfoldable pub line : Document
-line = record { parents = 65535 ∷ 0 ∷ 1 ∷ 1 ∷ 3 ∷ 0 ∷ 5 ∷ []; labels = 1 ∷ 2 ∷ 5 ∷ 3 ∷ 4 ∷ 2 ∷ 3 ∷ [] }
+line = documentOf (65535 ∷ 0 ∷ 1 ∷ 1 ∷ 3 ∷ 0 ∷ 5 ∷ []) (1 ∷ 2 ∷ 5 ∷ 3 ∷ 4 ∷ 2 ∷ 3 ∷ [])
 
 -- //strip//frame
 unfoldable pub view : Pattern
@@ -55,7 +55,7 @@ oneFrame = pattern (255 ∷ 0 ∷ []) (0 ∷ 0 ∷ []) (2 ∷ 3 ∷ []) 0
 
 -- the witness of //strip//frame against //strip[control]//frame
 unfoldable pub viewWitness : Document
-viewWitness = record { parents = 65535 ∷ 0 ∷ 1 ∷ 2 ∷ []; labels = 1 ∷ 2 ∷ 1 ∷ 3 ∷ [] }
+viewWitness = documentOf (65535 ∷ 0 ∷ 1 ∷ 2 ∷ []) (1 ∷ 2 ∷ 1 ∷ 3 ∷ [])
 
 -- cases 1 to 11, and one more
 unfoldable pub cases : List Fact

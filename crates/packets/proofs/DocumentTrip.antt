@@ -6,7 +6,7 @@ use mathlib.Core.List.{List, [], _∷_, _++_}
 use native.Mathlib.Omega.{arith}
 use lib.ListN.{length, getD, drop}
 use Rattle.tables.specs.Column.{blocks, column}
-use Rattle.tables.specs.Document.{Document, nodeCount, ValidDocument}
+use Rattle.tables.specs.Document.{Document, nodeCount, ValidDocument, documentOf}
 use Rattle.tables.specs.Refusal.{Check, Passes, CountedBy}
 use Rattle.tables.specs.declared.Counted.{Counted}
 use Rattle.tables.proofs.Columns.{blocks-ext, column-length, column-at, column-ext, column-self}
@@ -60,7 +60,7 @@ unfolding packetDocument nodeBytes
 document-written-then-read {d} v =
     let bs : List ℕ = documentPacket d in
     let n : nodesIn bs ≡ nodeCount d = nodes-in-packet d in
-    ap₂ (λ x y. record { parents = x; labels = y })
+    ap₂ (λ x y. documentOf x y)
     (column-of (λ i. half bs (3 + 4 * i)) (nodesIn bs) (d .parents) n
     (λ i l. node-half d i 0 (3 + 4 * i) (omega arith) (omega arith) (omega arith) ∙ half-of-bytes (getD (d .parents) i 0)))
     (column-of (λ i. half bs (5 + 4 * i)) (nodesIn bs) (d .labels) (n ∙ sym (v .equal))

@@ -8,7 +8,7 @@ use native.Mathlib.Numerals.{add-one}
 use lib.ListN.{length, getD, set, take, drop}
 use lib.Seq.{length-take-le, take-suc, take-at}
 use Rattle.tables.specs.Column.{column}
-use Rattle.tables.specs.Document.{ValidDocument}
+use Rattle.tables.specs.Document.{ValidDocument, documentOf}
 use Rattle.tables.specs.Pattern.{patternOf, ValidShape, ValidPattern}
 use Rattle.tables.specs.Refusal.{Check, Passes, Refuses, CountedBy}
 use Rattle.tables.specs.declared.Pattern.{Pattern}
@@ -71,10 +71,10 @@ document-rows bs = (
 
 -- the fronts of two lists that begin with a packet's document are that document
 pub document-fronts : (bs xs ys d e : List ℕ) (n : ℕ) → n ≡ nodesIn bs → xs ≡ packetDocument bs .parents ++ d → ys ≡ packetDocument bs .labels ++ e
-    → record { parents = take n xs; labels = take n ys } ≡ packetDocument bs
+    → documentOf (take n xs) (take n ys) ≡ packetDocument bs
 unfolding packetDocument
 document-fronts bs xs ys d e n h f g =
-    ap₂ (λ x y. record { parents = x; labels = y }) (front (λ i. half bs (3 + 4 * i)) xs d f) (front (λ i. half bs (5 + 4 * i)) ys e g)
+    ap₂ (λ x y. documentOf x y) (front (λ i. half bs (3 + 4 * i)) xs d f) (front (λ i. half bs (5 + 4 * i)) ys e g)
   where
     front : (f : ℕ → ℕ) (xs d : List ℕ) → xs ≡ column f (nodesIn bs) ++ d → take n xs ≡ column f (nodesIn bs)
     front f xs d p = ap (take n) p ∙ take-at (column f (nodesIn bs)) d n (column-length f (nodesIn bs) ∙ sym h)

@@ -16,7 +16,7 @@ use mathlib.Core.Path.{_≡_}
 use mathlib.Core.List.{List, [], _∷_, _++_}
 use lib.ListN.{length, getD, take, drop}
 use Rattle.tables.specs.Column.{blocks, column}
-use Rattle.tables.specs.Document.{Document, nodeCount, ValidDocument}
+use Rattle.tables.specs.Document.{Document, nodeCount, ValidDocument, documentOf}
 use Rattle.tables.specs.Refusal.{Check, CountedBy}
 use Rattle.tables.specs.declared.Counted.{Counted}
 use Rattle.packets.specs.Bytes.{high, low, half}
@@ -36,10 +36,7 @@ nodesIn bs = half bs 1 / 4
 
 -- the document that a packet holds
 unfoldable pub packetDocument : List ℕ → Document
-packetDocument bs = record {
-  parents = column (λ i. half bs (3 + 4 * i)) (nodesIn bs);
-  labels = column (λ i. half bs (5 + 4 * i)) (nodesIn bs);
-}
+packetDocument bs = documentOf (column (λ i. half bs (3 + 4 * i)) (nodesIn bs)) (column (λ i. half bs (5 + 4 * i)) (nodesIn bs))
 
 -- the length field is one of those allowed, and agrees with the bytes present
 pub record DocumentSized (bs : List ℕ) (n : ℕ) : Type 0 where

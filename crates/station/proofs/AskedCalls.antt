@@ -5,7 +5,7 @@ use mathlib.Core.Logic.{inl, inr, ⊎-elim}
 use mathlib.Core.List.{List, _++_}
 use native.Mathlib.Omega.{arith}
 use lib.ListN.{length, take, drop}
-use Rattle.tables.specs.Document.{nodeCount, ValidDocument}
+use Rattle.tables.specs.Document.{nodeCount, ValidDocument, documentOf}
 use Rattle.tables.specs.Pattern.{zeroPattern, ValidPattern}
 use Rattle.tables.specs.Refusal.{number, Check, Passes, Refuses, Decided}
 use Rattle.tables.specs.declared.Refusal.{Refusal}
@@ -64,7 +64,7 @@ module _ (ds ps parents₀ labels₀ parents labels : List ℕ) where
         pattern-told b w = subst (λ b. Decided (patternChecks ps) b (x .pattern ≡ packetPattern ps) (x .pattern ≡ zeroPattern)) w t
 
         -- the pattern's packet is refused
-        pub asked-no-pattern : (r q : Refusal) → x .answer ≡ checked.Refused r → AfterRules (record { parents = take n parents; labels = take n labels }) r q
+        pub asked-no-pattern : (r q : Refusal) → x .answer ≡ checked.Refused r → AfterRules (documentOf (take n parents) (take n labels)) r q
             → ReadsAsked ds ps parents₀ labels₀ (counted.Refused q) (x .pattern) parents labels
         asked-no-pattern r q w v =
             let k = counted-nodes .1 in
@@ -83,7 +83,7 @@ module _ (ds ps parents₀ labels₀ parents labels : List ℕ) where
 -- what is known where both packets were read
 module _ {ds ps parents₀ labels₀ parents labels : List ℕ} {n : ℕ} {p : Pattern} (t : Asked ds ps parents₀ labels₀ n p parents labels) where
   -- the fronts of the two lists are the document
-  pub asked-document : record { parents = take n parents; labels = take n labels } ≡ packetDocument ds
+  pub asked-document : documentOf (take n parents) (take n labels) ≡ packetDocument ds
   asked-document = document-fronts ds parents labels (drop n parents₀) (drop n labels₀) n (t .count) (t .parents-read) (t .labels-read)
 
   pub asked-nodes : n ≡ nodeCount (packetDocument ds)

@@ -7,7 +7,7 @@ use native.Mathlib.Omega.{arith}
 use lib.ListN.{length, getD, take, drop, replicate, length-replicate}
 use lib.Seq.{take-at}
 use Rattle.tables.specs.Column.{column}
-use Rattle.tables.specs.Document.{Document, nodeCount}
+use Rattle.tables.specs.Document.{Document, nodeCount, documentOf}
 use Rattle.tables.specs.Pattern.{Shape, shapeOf, ValidShape, ValidPattern}
 use Rattle.tables.specs.Refusal.{Check, Passes, Refuses}
 use Rattle.tables.specs.declared.Refusal.{Refusal}
@@ -116,16 +116,16 @@ module _ (xs ys parents labels : List ℕ) (p q : Pattern) (f : ContainmentAnswe
     apart-room room₀ room l k = refused room₀ room Room (inr (apart .0 .1 .1 .0, inl (λ z. omega arith, refl))) k
 
     -- the fronts of the two lists are the witness
-    fronts : record { parents = take m parents; labels = take m labels } ≡ witnessOf (shapeOf (packetPattern xs)) (apart .1 .label)
+    fronts : documentOf (take m parents) (take m labels) ≡ witnessOf (shapeOf (packetPattern xs)) (apart .1 .label)
     fronts =
         let w = apart .1 in
         let s = witness-lengths first-valid (w .label) in
-        ap₂ (λ x y. record { parents = x; labels = y })
+        ap₂ (λ x y. documentOf x y)
         (ap (take m) (w .parent-list) ∙ take-at (witnessOf (shapeOf (packetPattern xs)) (w .label) .parents) _ m (s .0 ∙ sym (w .count)))
         (ap (take m) (w .label-list) ∙ take-at (witnessOf (shapeOf (packetPattern xs)) (w .label) .labels) _ m (s .1 ∙ sym (w .count)))
 
     pub apart-told : (room₀ room : List ℕ) → 517 ≤ length room₀
-        → room ≡ documentPacket (record { parents = take m parents; labels = take m labels }) ++ (high (node .0) ∷ low (node .0) ∷ []) ++ drop
+        → room ≡ documentPacket (documentOf (take m parents) (take m labels)) ++ (high (node .0) ∷ low (node .0) ∷ []) ++ drop
         (4 * length (take m parents) + 3 + 2) room₀
         → ContainsPackets xs ys room₀ (counted.Count 0) room
     apart-told room₀ room l k =

@@ -5,6 +5,7 @@ use mathlib.Core.Logic.{inl, ⊎-elim}
 use mathlib.Core.List.{List, [], _∷_, _++_}
 use native.Mathlib.Omega.{arith}
 use lib.ListN.{length, getD, take, drop, replicate, length-replicate, List·getD-append}
+use Rattle.tables.specs.Document.{documentOf}
 use Rattle.tables.specs.Column.{blocks}
 use Rattle.tables.specs.Pattern.{shapeOf}
 use Rattle.tables.specs.declared.Refusal.{Refusal}
@@ -69,12 +70,12 @@ module _ {ds ps parents₀ labels₀ parents labels : List ℕ} {n : ℕ} {p : P
     )
 
     -- the call in terms of the packets
-    here : (a : Counted) → FindsAnswers p (record { parents = take n parents; labels = take n labels }) list₀ work₀ a list work
+    here : (a : Counted) → FindsAnswers p (documentOf (take n parents) (take n labels)) list₀ work₀ a list work
         → FindsAnswers (packetPattern ps) (packetDocument ds) list₀ work₀ a list work
     here a h = subst (λ d. FindsAnswers (packetPattern ps) d list₀ work₀ a list work) (asked-document t)
-        (subst (λ q. FindsAnswers q (record { parents = take n parents; labels = take n labels }) list₀ work₀ a list work) (t .pattern-read) h)
+        (subst (λ q. FindsAnswers q (documentOf (take n parents) (take n labels)) list₀ work₀ a list work) (t .pattern-read) h)
 
-    module _ (a : Counted) (h : FindsAnswers p (record { parents = take n parents; labels = take n labels }) list₀ work₀ a list work) where
+    module _ (a : Counted) (h : FindsAnswers p (documentOf (take n parents) (take n labels)) list₀ work₀ a list work) where
       -- it refuses for the document's rules alone
       pub answers-refused : (room₀ room : List ℕ) (r : Refusal) → a ≡ counted.Refused r → room ≡ room₀ → AnswersPackets ds ps room₀ (counted.Refused r) room
       answers-refused room₀ room r e k =

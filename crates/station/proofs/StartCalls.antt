@@ -7,7 +7,7 @@ use native.Mathlib.Omega.{arith}
 use lib.ListN.{length, take, drop, replicate, length-replicate}
 use lib.Seq.{take-at}
 use Rattle.tables.specs.Column.{blocks, column}
-use Rattle.tables.specs.Document.{nodeCount}
+use Rattle.tables.specs.Document.{nodeCount, documentOf}
 use Rattle.tables.specs.Pattern.{shapeOf}
 use Rattle.tables.specs.Refusal.{Check}
 use Rattle.tables.specs.declared.Refusal.{Refusal}
@@ -43,7 +43,7 @@ module _ {ds ps parents₀ labels₀ parents labels : List ℕ} {n : ℕ} {p : P
 
   -- the start bytes are no start list, whatever else: the document's rules are told first
   unstarted : (room₀ room : List ℕ) (q : Refusal) → ((length ss % 2 ≡ 0) × StartList (packetDocument ds) (unpacked ss) → ⊥)
-      → AfterRules (record { parents = take n parents; labels = take n labels }) Start q → room ≡ room₀ → StartsPackets ds ps ss room₀ (counted.Refused q) room
+      → AfterRules (documentOf (take n parents) (take n labels)) Start q → room ≡ room₀ → StartsPackets ds ps ss room₀ (counted.Refused q) room
   unstarted room₀ room q o w k =
       let rest : List Check = startCheck ds ps ss ++ roomCheck ds (length room₀) in
       record {
@@ -56,13 +56,13 @@ module _ {ds ps parents₀ labels₀ parents labels : List ℕ} {n : ℕ} {p : P
       }
 
   -- an odd number of bytes
-  pub starts-odd : (room₀ room : List ℕ) (q : Refusal) → (length ss % 2 ≡ 0 → ⊥) → AfterRules (record { parents = take n parents; labels = take n labels })
+  pub starts-odd : (room₀ room : List ℕ) (q : Refusal) → (length ss % 2 ≡ 0 → ⊥) → AfterRules (documentOf (take n parents) (take n labels))
       Start q
       → room ≡ room₀ → StartsPackets ds ps ss room₀ (counted.Refused q) room
   starts-odd room₀ room q o = unstarted room₀ room q (λ z. o (z .0))
 
   -- more start nodes than nodes
-  pub starts-many : (room₀ room : List ℕ) (q : Refusal) → n < length ss / 2 → AfterRules (record { parents = take n parents; labels = take n labels }) Start q
+  pub starts-many : (room₀ room : List ℕ) (q : Refusal) → n < length ss / 2 → AfterRules (documentOf (take n parents) (take n labels)) Start q
       → room ≡ room₀ → StartsPackets ds ps ss room₀ (counted.Refused q) room
   unfolding unpacked
   starts-many room₀ room q o =
@@ -91,13 +91,13 @@ module _ {ds ps parents₀ labels₀ parents labels : List ℕ} {n : ℕ} {p : P
     has-room =
         (omega (arith, asked-few t, asked-nodes t, length-replicate {A = ℕ} 2048 0), omega (arith, asked-few t, asked-nodes t, length-replicate {A = ℕ} 4096 0))
 
-    module _ (a : Counted) (h : FindsStarted p (record { parents = take n parents; labels = take n labels }) (take (length ss / 2) from) list₀ work₀ a list
+    module _ (a : Counted) (h : FindsStarted p (documentOf (take n parents) (take n labels)) (take (length ss / 2) from) list₀ work₀ a list
         work) where
       -- the call in terms of the packets
       here : FindsStarted (packetPattern ps) (packetDocument ds) (unpacked ss) list₀ work₀ a list work
       here = subst (λ xs. FindsStarted (packetPattern ps) (packetDocument ds) xs list₀ work₀ a list work) starts-are
           (subst (λ d. FindsStarted (packetPattern ps) d (take (length ss / 2) from) list₀ work₀ a list work) (asked-document t)
-          (subst (λ q. FindsStarted q (record { parents = take n parents; labels = take n labels }) (take (length ss / 2) from) list₀ work₀ a list work)
+          (subst (λ q. FindsStarted q (documentOf (take n parents) (take n labels)) (take (length ss / 2) from) list₀ work₀ a list work)
           (t .pattern-read) h))
 
       -- it refuses for the document's rules or the start

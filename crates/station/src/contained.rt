@@ -3,6 +3,7 @@ ghost use Prim.Native.Nat.{_+_, _*_, _≤_};
 ghost use mathlib.Core.Path.{_≡_};
 ghost use mathlib.Core.List.{[], _∷_, _++_};
 ghost use lib.ListN.{length, take, drop, getD};
+ghost use Rattle.tables.specs.Document.{documentOf};
 ghost use Rattle.tables.specs.Column.{column};
 ghost use Rattle.packets.specs.Bytes.{high, low};
 ghost use Rattle.packets.specs.DocumentPacket.{documentPacket};
@@ -54,7 +55,7 @@ fn put_node(out: &mut [u8], at: usize, p: u16, l: u16)
 // The packet of a document at the front of the room.
 fn put_document(parents: &[u16], labels: &[u16], room: &mut [u8])
     requires { ⌜ (length (now parents) ≤ 2048) × (length (now labels) ≡ length (now parents)) × (4 * length (now parents) + 3 ≤ length (now room)) ⌝ }
-    ensures { λ _. ⌜ now (room .exit) ≡ documentPacket (record { parents = now (parents .entry); labels = now (labels .entry) }) ++ drop
+    ensures { λ _. ⌜ now (room .exit) ≡ documentPacket (documentOf (now (parents .entry)) (now (labels .entry))) ++ drop
         (4 * length (now (parents .entry)) + 3) (now (room .entry)) ⌝ }
 {
     let n = parents.len();
@@ -69,7 +70,7 @@ fn put_document(parents: &[u16], labels: &[u16], room: &mut [u8])
 // The packet of a document and then a node of it.
 fn put_witness(parents: &[u16], labels: &[u16], node: u16, room: &mut [u8])
     requires { ⌜ (length (now parents) ≤ 2048) × (length (now labels) ≡ length (now parents)) × (4 * length (now parents) + 5 ≤ length (now room)) ⌝ }
-    ensures { λ _. ⌜ now (room .exit) ≡ documentPacket (record { parents = now (parents .entry); labels = now (labels .entry) }) ++
+    ensures { λ _. ⌜ now (room .exit) ≡ documentPacket (documentOf (now (parents .entry)) (now (labels .entry))) ++
         (high node ∷ low node ∷ []) ++ drop (4 * length (now (parents .entry)) + 3 + 2) (now (room .entry)) ⌝ }
 {
     put_document(parents, labels, room);

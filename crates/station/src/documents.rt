@@ -1,6 +1,7 @@
 // The calls on a document, as packets in and answers out (docs/RULES.md, "From C").
 ghost use Prim.Native.Nat.{_≤_};
 ghost use lib.ListN.{length};
+ghost use Rattle.tables.specs.Document.{documentOf};
 ghost use Rattle.station.specs.Documents.{AfterRules, ReadsAsked, AnswersPackets, StartsPackets};
 use crate::halves;
 use tables::Checked;
@@ -16,7 +17,7 @@ struct AskedRead {
 
 // The refusal of a document that breaks the rules; of any other, the one that comes after them.
 fn after_rules(parents: &[u16], labels: &[u16], r: Refusal) -> Refusal
-    ensures { λ q. ⌜ AfterRules (record { parents = now (parents .entry); labels = now (labels .entry) }) r q ⌝ }
+    ensures { λ q. ⌜ AfterRules (documentOf (now (parents .entry)) (now (labels .entry))) r q ⌝ }
 {
     match tables::check_document(parents, labels) {
         Checked::Right => r,

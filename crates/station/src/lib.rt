@@ -1,5 +1,6 @@
 // The ground station's entries (docs/RULES.md, "From C"): every call on packets and byte slices. An answer is 0 or more; a refusal is minus its number. The
 // functions behind them answer as every call here does; `code` turns their answers into C's number.
+ghost use Rattle.tables.specs.Document.{documentOf};
 ghost use Rattle.station.specs.Code.{Coded};
 ghost use Rattle.station.specs.Contained.{ContainsPackets};
 ghost use Rattle.station.specs.Documents.{AnswersPackets, StartsPackets};
@@ -98,7 +99,7 @@ pub extern "C" fn nishkavel_list_answers(
     list: &mut [u16],
     work: &mut [u64],
 ) -> i64
-    ensures { λ r. ⌜ Coded (λ a. ListAnswers (record { parents = now (parents .entry); labels = now (labels .entry) }) (now (pattern .entry))
+    ensures { λ r. ⌜ Coded (λ a. ListAnswers (documentOf (now (parents .entry)) (now (labels .entry))) (now (pattern .entry))
         (now (list .entry)) (now (work .entry)) a (now (list .exit)) (now (work .exit))) r ⌝ }
 {
     code::number_of(lists::list_answers(parents, labels, pattern, list, work))
@@ -114,7 +115,7 @@ pub extern "C" fn nishkavel_list_started(
     list: &mut [u16],
     work: &mut [u64],
 ) -> i64
-    ensures { λ r. ⌜ Coded (λ a. ListStarted (record { parents = now (parents .entry); labels = now (labels .entry) }) (now (pattern .entry))
+    ensures { λ r. ⌜ Coded (λ a. ListStarted (documentOf (now (parents .entry)) (now (labels .entry))) (now (pattern .entry))
         (now (starts .entry)) (now (list .entry)) (now (work .entry)) a (now (list .exit)) (now (work .exit))) r ⌝ }
 {
     code::number_of(lists::list_started(parents, labels, pattern, starts, list, work))

@@ -1,4 +1,5 @@
 // The calls on a document that stands in two lists, with the pattern as a packet (docs/RULES.md, "From C").
+ghost use Rattle.tables.specs.Document.{documentOf};
 ghost use Rattle.station.specs.Lists.{ListAnswers, ListStarted};
 use tables::Checked;
 use tables::Counted;
@@ -11,7 +12,7 @@ pub(crate) fn list_answers(
     list: &mut [u16],
     work: &mut [u64],
 ) -> Counted
-    ensures { λ r. ⌜ ListAnswers (record { parents = now (parents .entry); labels = now (labels .entry) }) (now (pattern .entry)) (now (list .entry))
+    ensures { λ r. ⌜ ListAnswers (documentOf (now (parents .entry)) (now (labels .entry))) (now (pattern .entry)) (now (list .entry))
         (now (work .entry)) r (now (list .exit)) (now (work .exit)) ⌝ }
 {
     let x = packets::read_pattern(pattern);
@@ -31,7 +32,7 @@ pub(crate) fn list_started(
     list: &mut [u16],
     work: &mut [u64],
 ) -> Counted
-    ensures { λ r. ⌜ ListStarted (record { parents = now (parents .entry); labels = now (labels .entry) }) (now (pattern .entry)) (now (starts .entry))
+    ensures { λ r. ⌜ ListStarted (documentOf (now (parents .entry)) (now (labels .entry))) (now (pattern .entry)) (now (starts .entry))
         (now (list .entry)) (now (work .entry)) r (now (list .exit)) (now (work .exit)) ⌝ }
 {
     let x = packets::read_pattern(pattern);

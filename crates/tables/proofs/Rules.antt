@@ -7,7 +7,7 @@ use lib.Dec.{T, ltb, eqb, eqb→eq}
 use lib.ListN.{length, getD}
 use Rattle.tables.specs.Tree.{IsLabel}
 use Rattle.tables.specs.Column.{padded}
-use Rattle.tables.specs.Document.{Document, nodeCount, nodesOf, NodeRule, ValidDocument}
+use Rattle.tables.specs.Document.{Document, nodeCount, nodesOf, NodeRule, ValidDocument, documentOf}
 use Rattle.tables.specs.Pattern.{Shape, shapeOf, tableOf, patternOf, StepRule, ValidShape, Clean}
 use Rattle.tables.specs.declared.Pattern.{Pattern}
 use Rattle.tables.proofs.Trees.{Ordered}
@@ -168,4 +168,4 @@ same-document d e t =
     let p = and-both (sameList (d .parents) (e .parents)) _ t in
     let ps : d .parents ≡ e .parents = same-list (d .parents) (e .parents) (p .0) in
     let ls : d .labels ≡ e .labels = same-list (d .labels) (e .labels) (p .1) in
-    λ i. record { parents = ps i; labels = ls i }
+    λ i. documentOf (ps i) (ls i)

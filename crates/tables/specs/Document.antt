@@ -10,6 +10,10 @@ pub record Document : Type 0 where
   pub parents : List ℕ
   pub labels : List ℕ
 
+-- the document of two lists
+abbrev pub documentOf : List ℕ → List ℕ → Document
+documentOf parents labels = record { parents = parents; labels = labels }
+
 -- how many nodes a document has
 abbrev pub nodeCount : Document → ℕ
 nodeCount d = length (d .parents)

@@ -6,6 +6,7 @@ ghost use mathlib.Core.Path.{_≡_};
 ghost use mathlib.Core.Logic.{_↔_};
 ghost use lib.ListN.{length, getD};
 ghost use lib.Dec.{T};
+ghost use Rattle.tables.specs.Document.{documentOf};
 ghost use Rattle.tables.specs.Tree.{Hangs};
 ghost use Rattle.tables.specs.Pattern.{zeroPattern};
 ghost use Rattle.tables.specs.Refusal.{number};
@@ -102,7 +103,7 @@ fn node_hangs(parents: &[u16], i: usize) -> bool
 // Right exactly where the two lists are a document that obeys the rules; else refused by BadDocument. A node that one climb leaves behind is met by no
 // later climb.
 pub fn check_document(parents: &[u16], labels: &[u16]) -> Checked
-    ensures { λ r. ⌜ ChecksDocument (record { parents = now (parents .entry); labels = now (labels .entry) }) r ⌝ }
+    ensures { λ r. ⌜ ChecksDocument (documentOf (now (parents .entry)) (now (labels .entry))) r ⌝ }
 {
     let n = parents.len();
     if n == 0 {

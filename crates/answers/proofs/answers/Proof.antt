@@ -3,7 +3,7 @@ use mathlib.Core.Path.{refl, subst}
 use mathlib.Core.Logic.{inl, inr, ⊎-elim}
 use denote.Ref.{now}
 use native.Mathlib.Omega.{arith}
-use Rattle.tables.specs.Document.{ValidDocument}
+use Rattle.tables.specs.Document.{ValidDocument, documentOf}
 use Rattle.tables.specs.Pattern.{ValidPattern}
 use Rattle.tables.specs.Checks.{ChecksPattern, ChecksDocument}
 use borrow.Author.Needs.{needs}
@@ -17,14 +17,11 @@ patterned x = subst (ChecksPattern (x .before .before .before .before .before .b
 
 -- and the second
 documented : (y : tie.After-enum-told2)
-    → ValidDocument (record {
-      parents = now (y .before .before .before .before .before .before .before .before .before .before .args .parents);
-      labels = now
-          (y .before .before .before .before .before .before .before .before .before .before .args .labels);
-    })
+    → ValidDocument (documentOf (now (y .before .before .before .before .before .before .before .before .before .before .args .parents))
+    (now (y .before .before .before .before .before .before .before .before .before .before .args .labels)))
 documented y =
     let s = y .before .before .before .before .before .before .before .before .before .before in
-    subst (ChecksDocument (record { parents = now (s .args .parents); labels = now (s .args .labels) })) (y .enum-told2 .given .1)
+    subst (ChecksDocument (documentOf (now (s .args .parents)) (now (s .args .labels)))) (y .enum-told2 .given .1)
     (y .before .before .check-document .ensures) .0 .0
 
 returns : tie.Need-returns
@@ -37,7 +34,7 @@ returns-2 : tie.Need-returns-2
 returns-2 c =
     let x = c .before .before .before .before in
     let s = x .before .before .before .before .before .before .before in
-    let v = subst (ChecksDocument (record { parents = now (s .args .parents); labels = now (s .args .labels) })) (c .before .r2 .given .1)
+    let v = subst (ChecksDocument (documentOf (now (s .args .parents)) (now (s .args .labels)))) (c .before .r2 .given .1)
     (c .before .before .before .check-document .ensures) in
     (inr (patterned x, ⊎-elim inl (λ w. absurd (w .1)) (v .0)), (refl, refl))
 

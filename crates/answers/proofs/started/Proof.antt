@@ -3,12 +3,12 @@ use mathlib.Core.Path.{_≡_, refl, subst}
 use mathlib.Core.Logic.{inl, inr, ⊎-elim}
 use denote.Ref.{now}
 use native.Mathlib.Omega.{arith}
-use Rattle.tables.specs.Document.{ValidDocument}
+use Rattle.tables.specs.Document.{ValidDocument, documentOf}
 use Rattle.tables.specs.Pattern.{shapeOf, ValidPattern}
 use Rattle.tables.specs.Checks.{ChecksPattern, ChecksDocument}
 use Rattle.placing.specs.Answer.{StartList}
 use Rattle.answers.proofs.Starts.{says-passed, says-failed}
-use Rattle.answers.specs.Passes.{StartsRight}
+use Rattle.answers.specs.inner.Passes.{StartsRight}
 use borrow.Author.Needs.{needs}
 use Rattle.answers.proofs.started.Statement.{statement}
 use Rattle.answers.proofs.started.Tie as tie
@@ -20,24 +20,19 @@ patterned x = subst (ChecksPattern (x .before .before .before .before .before .b
 
 -- and the second
 documented : (y : tie.After-enum-told2)
-    → ValidDocument (record {
-      parents = now (y .before .before .before .before .before .before .before .before .before .before .before .args .parents);
-      labels = now (y .before .before .before .before .before .before .before .before .before .before .before .args .labels);
-    })
+    → ValidDocument (documentOf (now (y .before .before .before .before .before .before .before .before .before .before .before .args .parents))
+    (now (y .before .before .before .before .before .before .before .before .before .before .before .args .labels)))
 documented y =
     let s = y .before .before .before .before .before .before .before .before .before .before .before in
-    subst (ChecksDocument (record { parents = now (s .args .parents); labels = now (s .args .labels) })) (y .enum-told2 .given .1)
+    subst (ChecksDocument (documentOf (now (s .args .parents)) (now (s .args .labels)))) (y .enum-told2 .given .1)
     (y .before .before .check-document .ensures) .0 .0
 
 -- and the start
 begun : (z : tie.Else2) → (shapeOf (z .before .before .before .before .before .before .before .before .before .before .before .before .before .before .before
     .args .t1) .axis 0 ≡ 0)
-    × StartList (record {
-      parents = now (z .before .before .before .before .before .before .before .before .before .before .before .before .before .before
-          .before .args .parents);
-      labels = now (z .before .before .before .before .before .before .before .before .before .before .before .before .before
-          .before .before .args .labels);
-    }) (now (z .before .before .before .before .before .before .before .before .before .before .before .before .before
+    × StartList (documentOf (now (z .before .before .before .before .before .before .before .before .before .before .before .before .before .before .before
+    .args .parents)) (now (z .before .before .before .before .before .before .before .before .before .before .before .before .before .before .before .args
+    .labels))) (now (z .before .before .before .before .before .before .before .before .before .before .before .before .before
     .before .before .args .starts))
 begun z =
     let w = says-passed (StartsRight (now (z .before .before .before .before .before .before .before .before .before .before .before .before .before .before
@@ -54,7 +49,7 @@ returns-2 : tie.Need-returns-2
 returns-2 c =
     let x = c .before .before .before .before in
     let s = x .before .before .before .before .before .before .before .before in
-    let v = subst (ChecksDocument (record { parents = now (s .args .parents); labels = now (s .args .labels) })) (c .before .r2 .given .1)
+    let v = subst (ChecksDocument (documentOf (now (s .args .parents)) (now (s .args .labels)))) (c .before .r2 .given .1)
     (c .before .before .before .check-document .ensures) in
     (inr (patterned x, ⊎-elim inl (λ w. absurd (w .1)) (v .0)), (refl, refl))
 
@@ -71,7 +66,8 @@ returns-4 c =
         inr (
           documented y,
           inl (
-            λ w. says-failed (StartsRight (now (c .before .before .before .before .before .before .before .before .before .before .before .before .before .before
+            λ w. says-failed (StartsRight (now (c .before .before .before .before .before .before .before .before .before .before .before .before .before
+                .before
                 .before .args .starts)) _) (c .before .starts-right .result) (c .if2 .taken) (c .before .starts-right .ensures) (w .1 .ascending, w .1 .nodes),
             refl,
           ),

@@ -3,6 +3,7 @@ use mathlib.Core.Path.{subst}
 use native.Mathlib.Omega.{arith}
 use denote.Ref.{now}
 use lib.ListN.{length, replicate}
+use Rattle.tables.specs.Document.{documentOf}
 use Rattle.tables.proofs.Refusals.{refuses-not-passes}
 use Rattle.answers.specs.Answers.{startedChecks, FindsStarted}
 use Rattle.asking.proofs.Answering.{found-finds}
@@ -14,7 +15,7 @@ returns : tie.Need-returns
 returns c =
     let x = c .before .before .before .before .before .before .before .before .before .before .before .before .before in
     let a = c .before .before .before .before .before .before .started in
-    let h = subst (λ r. FindsStarted (x .args .p) (record { parents = now (x .args .parents); labels = now (x .args .labels) }) (now (x .args .starts))
+    let h = subst (λ r. FindsStarted (x .args .p) (documentOf (now (x .args .parents)) (now (x .args .labels))) (now (x .args .starts))
     (now (x .args .list)) (replicate 4096 0) r (a .last .1 .1 .1 .1 .0) (a .last .1 .1 .1 .1 .1 .0)) (c .before .c .given .1) (a .ensures) in
     found-finds (h .1)
 
@@ -22,9 +23,9 @@ returns-2 : tie.Need-returns-2
 returns-2 c =
     let x = c .before .before .before .before .before .before .before .before .before .before .before .before in
     let a = c .before .before .before .before .before .started in
-    let h = subst (λ r. FindsStarted (x .args .p) (record { parents = now (x .args .parents); labels = now (x .args .labels) }) (now (x .args .starts))
+    let h = subst (λ r. FindsStarted (x .args .p) (documentOf (now (x .args .parents)) (now (x .args .labels))) (now (x .args .starts))
     (now (x .args .list)) (replicate 4096 0) r (a .last .1 .1 .1 .1 .0) (a .last .1 .1 .1 .1 .1 .0)) (c .enum-told .given .1) (a .ensures) in
-    absurd (refuses-not-passes (startedChecks (x .args .p) (record { parents = now (x .args .parents); labels = now (x .args .labels) })
+    absurd (refuses-not-passes (startedChecks (x .args .p) (documentOf (now (x .args .parents)) (now (x .args .labels)))
     (now (x .args .starts)) (length (now (x .args .list))) 4096) (c .enum-told .given .0 .0) (h .0) (
       x .pre .0,
       (

@@ -3,6 +3,7 @@ use Prim.Native.Nat.{_<_}
 use mathlib.Core.Path.{subst}
 use native.Mathlib.Omega.{arith}
 use denote.Ref.{now}
+use Rattle.tables.specs.Document.{documentOf}
 use Rattle.asking.specs.Text.{viewWord, queryWord, inputWord}
 use Rattle.asking.proofs.Parts.{next-within}
 use Rattle.asking.proofs.Writing.{refused-short}
@@ -117,7 +118,7 @@ put-answers-requires c κs =
     let n = c .before .before .before .before .before .before .next-at in
     let w = c .before .before .before .before .before .pattern-at2 in
     let q = subst (λ z. ReadAt (now (x .args .input)) (n .result) z (w .result .pattern)) (c .before .before .before .enum-told2 .given .1) (w .ensures) in
-    let d = rules-valid (now (x .args .input)) (record { parents = now (x .args .parents); labels = now (x .args .labels) }) (x .pre .1 .0) (x .pre .1 .1 .0) in (
+    let d = rules-valid (now (x .args .input)) (documentOf (now (x .args .parents)) (now (x .args .labels))) (x .pre .1 .0) (x .pre .1 .1 .0) in (
       read-valid (now (x .args .input)) (n .result) (w .result .pattern) q,
       (read-valid (now (x .args .input)) (x .args .a) (v .result .pattern) u, (d, omega (arith, x .pre .1 .1 .1))),
     )
@@ -134,7 +135,7 @@ returns-4 c =
     (c .before .before .before .before .before .before .enum-told2 .given .1) (w .ensures) in
     let e = c .before .before .before .before .before .next-at2 in
     all-answered (now (x .args .input)) (x .args .a) (x .pre .0) (x .pre .1 .0) (v .result .pattern) u (n .result) (n .ensures) (w .result .pattern) q
-    (e .result) (e .ensures) (record { parents = now (x .args .parents); labels = now (x .args .labels) }) (x .pre .1 .1 .0) (omega arith)
+    (e .result) (e .ensures) (documentOf (now (x .args .parents)) (now (x .args .labels))) (x .pre .1 .1 .0) (omega arith)
     (c .before .before .put-answers .ensures)
 
 pub past-document-spec : {M : Type 1} → statement M

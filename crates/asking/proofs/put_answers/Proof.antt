@@ -3,6 +3,7 @@ use Prim.Native.Nat.{_≤_}
 use native.Mathlib.Omega.{arith}
 use denote.Ref.{now}
 use lib.ListN.{length, take}
+use Rattle.tables.specs.Document.{documentOf}
 use Rattle.asking.specs.Text.{viewWord, queryWord, line}
 use Rattle.asking.proofs.Answering.{found-short, found-count, lists-start, answers-put}
 use borrow.Author.Needs.{needs}
@@ -19,7 +20,7 @@ view-short : (y : tie.After-find2) → length (line viewWord (take (y .before .b
 view-short y =
     let x = entry y in
     let f = y .before .before .before .find in
-    found-short (x .args .v) (record { parents = now (x .args .parents); labels = now (x .args .labels) }) (x .pre .1 .0) viewWord (f .result)
+    found-short (x .args .v) (documentOf (now (x .args .parents)) (now (x .args .labels))) (x .pre .1 .0) viewWord (f .result)
     (f .last .1 .1 .1 .0) (x .pre .1 .1 .0) (f .kept .1 .1 .1 .0) (f .ensures)
 
 -- the query's line fits
@@ -27,7 +28,7 @@ query-short : (y : tie.After-find2) → length (line queryWord (take (y .find2 .
 query-short y =
     let x = entry y in
     let f = y .find2 in
-    found-short (x .args .q) (record { parents = now (x .args .parents); labels = now (x .args .labels) }) (x .pre .0) queryWord (f .result)
+    found-short (x .args .q) (documentOf (now (x .args .parents)) (now (x .args .labels))) (x .pre .0) queryWord (f .result)
     (f .last .1 .1 .1 .0) (x .pre .1 .1 .0) (f .kept .1 .1 .1 .0) (f .ensures)
 
 slice-aggregate-seen : tie.Need-slice-aggregate-seen
@@ -54,7 +55,7 @@ put-third-requires c κs =
     let f = c .before .before .before .before .before .before .before .before .before .before .before .before .before .before .before .before .before .find in
     let p = c .before .before .before .before .before .before .before .before .put-line in
     let s = c .before .before .before .put-line2 in
-    let l = lists-start (x .args .v) (record { parents = now (x .args .parents); labels = now (x .args .labels) }) (x .pre .1 .0)
+    let l = lists-start (x .args .v) (documentOf (now (x .args .parents)) (now (x .args .labels))) (x .pre .1 .0)
     (take (f .result) (f .last .1 .1 .1 .0)) (f .ensures .lists) in (
       x .pre .0,
       (

@@ -1,6 +1,7 @@
 -- `asking::put_started` meets its contract: the started form finds the answers, and their line fits. Assumes nothing.
 use native.Mathlib.Omega.{arith}
 use denote.Ref.{now}
+use Rattle.tables.specs.Document.{documentOf}
 use Rattle.asking.specs.Text.{rewritingWord}
 use Rattle.asking.proofs.Answering.{found-short, found-count}
 use borrow.Author.Needs.{needs}
@@ -22,7 +23,7 @@ put-line-requires c κs =
     omega (
       arith,
       x .pre .1 .1 .1 .1,
-      found-short (x .args .e) (record { parents = now (x .args .parents); labels = now (x .args .labels) }) (x .pre .0)
+      found-short (x .args .e) (documentOf (now (x .args .parents)) (now (x .args .labels))) (x .pre .0)
           rewritingWord (f .result) (f .last .1 .1 .1 .1 .0) (x .pre .1 .0) (f .kept .1 .1 .1 .1 .0) (f .ensures),
     )
 

@@ -15,7 +15,7 @@ use Rattle.tables.proofs.Refusals.{refuses-not-passes}
 use Rattle.containment.specs.Mapping.{Contained}
 use Rattle.containment.specs.Witness.{Fresh, witnessSize}
 use Rattle.containment.specs.Equality.{pairChecks}
-use Rattle.containment.specs.Verdict.{AnswersVerdict}
+use Rattle.containment.specs.inner.Verdict.{AnswersVerdict}
 use Rattle.containment.specs.declared.Verdict.{Verdict}
 use Rattle.containment.specs.declared.Verdict.the-variants as verdict
 use Rattle.containment.proofs.Answering.{fresh-of, fresh-none, verdict-refuses, label-refuses, room-refuses, all-pass}

@@ -2,7 +2,7 @@
 use mathlib.Core.Path.{subst}
 use Rattle.tables.specs.Checks.{ChecksPattern}
 use Rattle.tables.specs.Pattern.{ValidPattern}
-use Rattle.containment.specs.Verdict.{Decides}
+use Rattle.containment.specs.inner.Verdict.{Decides}
 use Rattle.containment.proofs.Verdicts.{first-refused, second-refused}
 use borrow.Author.Needs.{needs}
 use Rattle.containment.proofs.decide.Statement.{statement}

@@ -6,7 +6,7 @@ use native.Mathlib.Omega.{arith}
 use lib.ListN.{length, take, drop, replicate, length-take, length-replicate}
 use denote.Ref.{now}
 use Rattle.tables.specs.Checks.{ChecksDocument}
-use Rattle.tables.specs.Document.{ValidDocument}
+use Rattle.tables.specs.Document.{ValidDocument, documentOf}
 use Rattle.tables.specs.Refusal.{Passes}
 use Rattle.tables.specs.declared.Counted.the-variants.{Count}
 use Rattle.packets.specs.DocumentPacket.{packetDocument, documentChecks, documentRules, ReadsNodes}
@@ -47,7 +47,7 @@ header x = nodes-headed (bytes x) _ _ (nodes x .0)
 few : (x : tie.After-n) → x .n .given .0 .0 ≤ 2048
 few x = omega (arith, nodes x .1 .0, headed-few (bytes x) (header x))
 
-fronts : (x : tie.After-n) → record { parents = take (x .n .given .0 .0) (parents x); labels = take (x .n .given .0 .0) (labels x) } ≡ packetDocument (bytes x)
+fronts : (x : tie.After-n) → documentOf (take (x .n .given .0 .0) (parents x)) (take (x .n .given .0 .0) (labels x)) ≡ packetDocument (bytes x)
 fronts x = document-fronts (bytes x) (parents x) (labels x) _ _ (x .n .given .0 .0) (nodes x .1 .0) (nodes x .1 .1) (nodes x .1 .2)
 
 -- and past the next test the document obeys the rules

@@ -6,12 +6,12 @@ use borrow.Author.Count.{below-more}
 use Rattle.tables.specs.declared.Refusal.the-variants.{BadDocument}
 use Rattle.tables.proofs.Refusals.{refused}
 use Rattle.tables.proofs.Tests.{passed, failed}
-use Rattle.tables.specs.Document.{NodeRule}
+use Rattle.tables.specs.Document.{NodeRule, documentOf}
 use Rattle.tables.proofs.check_document.Statement.{statement}
 use Rattle.tables.proofs.check_document.Tie as tie
 
 abbrev Inv-loop : tie.InvT-loop
-Inv-loop parents labels n i₀ i = (i ≤ n) × ((k : ℕ) → k < i → NodeRule (record { parents = parents; labels = labels }) k)
+Inv-loop parents labels n i₀ i = (i ≤ n) × ((k : ℕ) → k < i → NodeRule (documentOf parents labels) k)
 
 abbrev μ-loop : tie.MeasureT-loop
 μ-loop parents labels n i₀ i = n - i

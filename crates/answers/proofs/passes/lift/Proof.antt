@@ -4,11 +4,12 @@ use mathlib.Core.Path.{_≡_, refl, ap, _∙_}
 use denote.Ref.{now}
 use lib.ListN.{length, length-set}
 use native.Mathlib.Omega.{arith}
+use Rattle.tables.specs.Document.{documentOf}
 use Rattle.tables.specs.Pattern.{Shape}
 use Rattle.tables.proofs.Rules.{document-ordered}
 use Rattle.tables.proofs.Trees.{parent-lt}
-use Rattle.answers.specs.Plan.{PlanOf}
-use Rattle.answers.specs.Passes.{Upward}
+use Rattle.answers.specs.inner.Plan.{PlanOf}
+use Rattle.answers.specs.inner.Passes.{Upward}
 use Rattle.answers.proofs.Fitting.{fit-mask}
 use Rattle.answers.proofs.Upward.{up-start, up-fits, up-turn, up-root}
 use Rattle.answers.proofs.passes.lift.Statement.{statement}
@@ -16,7 +17,7 @@ use Rattle.answers.proofs.passes.lift.Tie as tie
 
 abbrev Inv-loop : tie.InvT-loop
 Inv-loop low high lack ch de near forks parents labels seed work₀ i₀ work i = (1 ≤ i) × (i ≤ length parents) × (length work ≡ length work₀) ×
-    ((A : Shape) → PlanOf A low high lack ch de near forks → Upward A (record { parents = parents; labels = labels }) seed i work₀ work)
+    ((A : Shape) → PlanOf A low high lack ch de near forks → Upward A (documentOf parents labels) seed i work₀ work)
 
 abbrev μ-loop : tie.MeasureT-loop
 μ-loop low high lack ch de near forks parents labels seed work₀ i₀ work i = i
@@ -58,7 +59,7 @@ loop-again c =
       h .same-length ∙ m .loop .inv .2,
       λ A p.
           let v = s .pre .0 in
-          let u : Upward A (record { parents = now (s .args .parents); labels = now (s .args .labels) }) (s .args .seed) (suc i) (now (s .args .work))
+          let u : Upward A (documentOf (now (s .args .parents)) (now (s .args .labels))) (s .args .seed) (suc i) (now (s .args .work))
           (m .loop .work) = rw z (m .loop .inv .3 A p) in
           up-turn A _ (p .valid) v (s .args .seed) i _ _ _ _ _ (record { late = omega arith; here = l; up = refl }) u
           (up-fits A _ (p .valid) v (s .args .seed) i _ _ l u _
@@ -90,7 +91,7 @@ returns c =
     let e : m .loop .i ≡ 1 = omega arith in
     let r : 1 < length w = omega (arith, v .some, s .pre .1 .0, m .loop .inv .2) in
     λ A p.
-    let u : Upward A (record { parents = now (s .args .parents); labels = now (s .args .labels) }) (s .args .seed) 1 (now (s .args .work)) w = rw e at
+    let u : Upward A (documentOf (now (s .args .parents)) (now (s .args .labels))) (s .args .seed) 1 (now (s .args .work)) w = rw e at
     (m .loop .inv .3 A p) in
     rw (c .before .before .turn-root .ensures)
     (up-root A _ (p .valid) v (s .args .seed) _ _ w u

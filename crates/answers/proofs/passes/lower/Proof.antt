@@ -5,10 +5,10 @@ use mathlib.Core.List.{List}
 use denote.Ref.{now}
 use lib.ListN.{length, length-replicate}
 use native.Mathlib.Omega.{arith}
-use Rattle.tables.specs.Document.{ValidDocument}
+use Rattle.tables.specs.Document.{ValidDocument, documentOf}
 use Rattle.tables.specs.Pattern.{Shape}
-use Rattle.answers.specs.Plan.{ChildPlan}
-use Rattle.answers.specs.Passes.{Marked, Ready, Downward, Listed}
+use Rattle.answers.specs.inner.Plan.{ChildPlan}
+use Rattle.answers.specs.inner.Passes.{Marked, Ready, Downward, Listed}
 use Rattle.answers.proofs.Listed.{down-ready, listed-start, listed-noted, listed-found, noted-few}
 use Rattle.answers.proofs.passes.lower.Statement.{statement}
 use Rattle.answers.proofs.passes.lower.Tie as tie
@@ -16,10 +16,10 @@ use Rattle.answers.proofs.passes.lower.Tie as tie
 abbrev Inv-loop : tie.InvT-loop
 Inv-loop kids de near forks output parents work₀ list₀ allowed₀ n c₀ i₀ work list allowed c i =
     (i ≤ n) × (length allowed ≡ 2048) × (length work ≡ length work₀) × (length list ≡ length list₀) × (c ≤ i)
-    × ((A : Shape) (labels : List ℕ) → ValidDocument (record { parents = parents; labels = labels }) → ChildPlan A kids de near forks → A .output ≡ output →
-    Ready A (record { parents = parents; labels = labels }) work₀
-    → Downward A (record { parents = parents; labels = labels }) (Marked work₀) i work₀ work allowed × Listed A
-    (record { parents = parents; labels = labels }) (Marked work₀) i c list₀ list)
+    × ((A : Shape) (labels : List ℕ) → ValidDocument (documentOf parents labels) → ChildPlan A kids de near forks → A .output ≡ output →
+    Ready A (documentOf parents labels) work₀
+    → Downward A (documentOf parents labels) (Marked work₀) i work₀ work allowed × Listed A
+    (documentOf parents labels) (Marked work₀) i c list₀ list)
 
 abbrev μ-loop : tie.MeasureT-loop
 μ-loop kids de near forks output parents work₀ list₀ allowed₀ n c₀ i₀ work list allowed c i = n - i

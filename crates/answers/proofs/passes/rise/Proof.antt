@@ -3,7 +3,7 @@ use Prim.Native.Nat.{ℕ, _*_}
 use denote.Ref.{now}
 use lib.ListN.{length}
 use Rattle.tables.specs.Pattern.{shapeOf}
-use Rattle.answers.specs.Plan.{PlanOf}
+use Rattle.answers.specs.inner.Plan.{PlanOf}
 use Rattle.answers.proofs.Stores.{cleared-zero, cleared-rest, cleared-length}
 use Rattle.answers.proofs.Upward.{up-before}
 use borrow.Author.Needs.{needs}

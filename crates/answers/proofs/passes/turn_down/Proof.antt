@@ -2,7 +2,8 @@
 use denote.Ref.{now}
 use native.Mathlib.Omega.{arith}
 use lib.ListN.{length-set}
-use Rattle.answers.specs.Passes.{Marked}
+use Rattle.tables.specs.Document.{documentOf}
+use Rattle.answers.specs.inner.Passes.{Marked}
 use Rattle.answers.proofs.TurnDown.{turned}
 use borrow.Author.Needs.{needs}
 use Rattle.answers.proofs.passes.turn_down.Statement.{statement}
@@ -18,7 +19,7 @@ returns c =
     let s = c .before .before .before .before .before .before .before in
     let a = c .before .before .before .above .ensures in (
       (simp length-set, simp length-set),
-      λ A labels before v k u. turned A _ _ _ _ k (record { parents = now (s .args .parents); labels = labels })
+      λ A labels before v k u. turned A _ _ _ _ k (documentOf (now (s .args .parents)) labels)
           (Marked before) v (s .args .i) _ _ before _ _ (s .pre .0 .0) (s .pre .1) (s .pre .0 .2) (omega (arith, s .pre .0 .1, s .pre .0 .3)) (a .0) (a .1)
           (c .pass-on .ensures) u,
     )

@@ -1,7 +1,7 @@
 -- `answers::plan::child_table` meets its contract: the row of child steps has the table of the relation. Assumes nothing.
 use borrow.Author.Needs.{needs}
 use Rattle.tables.specs.Pattern.{shapeOf}
-use Rattle.answers.specs.Plan.{ToChildren}
+use Rattle.answers.specs.inner.Plan.{ToChildren}
 use Rattle.answers.proofs.Lookups.{spread-marks}
 use Rattle.answers.proofs.plan.child_table.Statement.{statement}
 use Rattle.answers.proofs.plan.child_table.Tie as tie

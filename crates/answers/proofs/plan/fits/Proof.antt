@@ -1,6 +1,6 @@
 -- `answers::plan::fits` meets its contract. Assumes nothing.
 use borrow.Author.Needs.{needs}
-use Rattle.answers.specs.Plan.{fitMask}
+use Rattle.answers.specs.inner.Plan.{fitMask}
 use Rattle.answers.proofs.plan.fits.Statement.{statement}
 use Rattle.answers.proofs.plan.fits.Tie as tie
 

@@ -3,7 +3,7 @@ use native.Mathlib.Omega.{arith}
 use borrow.Author.Needs.{needs}
 use borrow.Author.Tests.{lt-ltb, le-ltb}
 use lib.Bits.{bitAnd}
-use Rattle.answers.specs.Plan.{lackMask}
+use Rattle.answers.specs.inner.Plan.{lackMask}
 use Rattle.answers.proofs.plan.lacking.Statement.{statement}
 use Rattle.answers.proofs.plan.lacking.Tie as tie
 

@@ -3,7 +3,7 @@ use Prim.Native.Nat.{_-_, _≤_}
 use mathlib.Core.Path.{_≡_, refl}
 use native.Mathlib.Numerals.{add-one}
 use native.Mathlib.Omega.{arith}
-use Rattle.answers.specs.Plan.{lookUp}
+use Rattle.answers.specs.inner.Plan.{lookUp}
 use Rattle.answers.proofs.plan.look_up.Statement.{statement}
 use Rattle.answers.proofs.plan.look_up.Tie as tie
 

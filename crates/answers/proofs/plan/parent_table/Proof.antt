@@ -1,7 +1,7 @@
 -- `answers::plan::parent_table` meets its contract: the row of parents has the table of the relation. Assumes nothing.
 use borrow.Author.Needs.{needs}
 use Rattle.tables.specs.Pattern.{shapeOf}
-use Rattle.answers.specs.Plan.{ToParent}
+use Rattle.answers.specs.inner.Plan.{ToParent}
 use Rattle.answers.proofs.Lookups.{spread-marks}
 use Rattle.answers.proofs.plan.parent_table.Statement.{statement}
 use Rattle.answers.proofs.plan.parent_table.Tie as tie

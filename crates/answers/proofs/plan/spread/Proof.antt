@@ -8,7 +8,7 @@ use lib.ListN.{getD}
 use Rattle.tables.proofs.Bits.{shl-one}
 use Rattle.tables.proofs.Marks.{marks-bits}
 use Rattle.tables.specs.Bits.{bit}
-use Rattle.answers.specs.Plan.{Spread}
+use Rattle.answers.specs.inner.Plan.{Spread}
 use Rattle.answers.proofs.Lookups.{spread-none, spread-more}
 use Rattle.answers.proofs.plan.spread.Statement.{statement}
 use Rattle.answers.proofs.plan.spread.Tie as tie

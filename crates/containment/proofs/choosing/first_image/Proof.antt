@@ -5,7 +5,7 @@ use native.Mathlib.Omega.{arith}
 use borrow.Author.Count.{below-more}
 use lib.ListN.{getD}
 use Rattle.tables.specs.Bits.{bit}
-use Rattle.containment.specs.Feasible.{nothing}
+use Rattle.containment.specs.inner.Feasible.{nothing}
 use Rattle.containment.proofs.Images.{pick-here}
 use Rattle.containment.proofs.choosing.first_image.Statement.{statement}
 use Rattle.containment.proofs.choosing.first_image.Tie as tie

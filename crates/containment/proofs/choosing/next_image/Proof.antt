@@ -3,7 +3,7 @@ use Prim.Native.Nat.{_-_, _≤_, _<_}
 use mathlib.Core.Path.{sym, _∙_}
 use native.Mathlib.Omega.{arith}
 use Rattle.tables.specs.Pattern.{Shape}
-use Rattle.containment.specs.Feasible.{Listed}
+use Rattle.containment.specs.inner.Feasible.{Listed}
 use Rattle.containment.proofs.Images.{Sought, sought-start, sought-here, sought-more, sought-end}
 use Rattle.containment.proofs.choosing.next_image.Statement.{statement}
 use Rattle.containment.proofs.choosing.next_image.Tie as tie

@@ -5,7 +5,7 @@ use mathlib.Core.Logic.{⊎-elim}
 use native.Mathlib.Omega.{arith}
 use denote.Ref.{now}
 use lib.ListN.{length, length-set}
-use Rattle.containment.specs.Lookup.{Groups}
+use Rattle.containment.specs.inner.Lookup.{Groups}
 use Rattle.containment.proofs.Planned.{groups-none, groups-skip, groups-more}
 use Rattle.containment.proofs.fitting.group.Statement.{statement}
 use Rattle.containment.proofs.fitting.group.Tie as tie

@@ -3,7 +3,7 @@ use Prim.Native.Nat.{ℕ, zero, suc}
 use mathlib.Core.Path.{_≡_, refl}
 use mathlib.Core.Logic.{_≢_}
 use native.Mathlib.Omega.{arith}
-use Rattle.containment.specs.Feasible.{maskFor}
+use Rattle.containment.specs.inner.Feasible.{maskFor}
 use borrow.Author.Needs.{needs}
 use Rattle.containment.proofs.fitting.mask_for.Statement.{statement}
 use Rattle.containment.proofs.fitting.mask_for.Tie as tie

@@ -10,7 +10,7 @@ use Rattle.tables.specs.Pattern.{Shape, shapeOf}
 use Rattle.tables.proofs.Rules.{shape-ordered}
 use Rattle.tables.proofs.Trees.{parent-lt}
 use Rattle.tables.proofs.Tests.{tells-eq}
-use Rattle.containment.specs.Lookup.{Labelled, PlanOf}
+use Rattle.containment.specs.inner.Lookup.{Labelled, PlanOf}
 use Rattle.containment.proofs.Lifted.{Lifted, lift-start, lift-fits, lift-turn, lift-root}
 use Rattle.containment.proofs.fitting.raise.Statement.{statement}
 use Rattle.containment.proofs.fitting.raise.Tie as tie

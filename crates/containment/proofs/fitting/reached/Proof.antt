@@ -5,7 +5,7 @@ use mathlib.Core.Logic.{⊎-elim}
 use native.Mathlib.Omega.{arith}
 use denote.Ref.{now}
 use Rattle.tables.specs.Bits.{Marks}
-use Rattle.containment.specs.Lookup.{Reached}
+use Rattle.containment.specs.inner.Lookup.{Reached}
 use Rattle.containment.proofs.Planned.{reached-none, reached-skip, reached-more}
 use Rattle.containment.proofs.fitting.reached.Statement.{statement}
 use Rattle.containment.proofs.fitting.reached.Tie as tie

@@ -4,13 +4,14 @@ use mathlib.Core.Path.{_∙_}
 use native.Mathlib.Omega.{arith}
 use denote.Ref.{now}
 use borrow.Author.Needs.{needs}
+use Rattle.tables.specs.Document.{documentOf}
 use Rattle.packets.specs.DocumentPacket.{nodeBytes}
 use Rattle.station.proofs.WitnessBytes.{Written, written-head, written-next, written-all}
 use Rattle.station.proofs.contained.put_document.Statement.{statement}
 use Rattle.station.proofs.contained.put_document.Tie as tie
 
 abbrev Inv-loop : tie.InvT-loop
-Inv-loop parents labels room₀ n i₀ room i = Written (record { parents = parents; labels = labels }) room₀ i room
+Inv-loop parents labels room₀ n i₀ room i = Written (documentOf parents labels) room₀ i room
 
 abbrev μ-loop : tie.MeasureT-loop
 μ-loop parents labels room₀ n i₀ room i = n - i
@@ -20,14 +21,14 @@ put-head-requires c κs = (omega arith, omega arith)
 
 loop-holds : tie.Need-loop-holds Inv-loop μ-loop
 loop-holds c = let a = c .before .before .before .before .before .before .before .args in written-head
-    (record { parents = now (a .parents); labels = now (a .labels) }) _ (now (a .room)) (c .before .before .put-head .ensures)
+    (documentOf (now (a .parents)) (now (a .labels))) _ (now (a .room)) (c .before .before .put-head .ensures)
 
 loop-again : tie.Need-loop-again Inv-loop μ-loop
 unfolding nodeBytes
 loop-again c =
     let l = c .before .before .before .before .before .before .before .loop in
     let a = c .before .before .before .before .before .before .before .before .before .before .before .before .before .before .before .args in
-    written-next (record { parents = now (a .parents); labels = now (a .labels) }) _ (l .i) (l .room) _ (omega arith) (c .before .before .put-node .kept .0)
+    written-next (documentOf (now (a .parents)) (now (a .labels))) _ (l .i) (l .room) _ (omega arith) (c .before .before .put-node .kept .0)
     (c .before .before .put-node .ensures) (l .inv)
 
 same-length : tie.Need-same-length Inv-loop μ-loop
@@ -37,7 +38,7 @@ returns : tie.Need-returns Inv-loop μ-loop
 returns c =
     let l = c .before .loop in
     let a = c .before .before .before .before .before .before .before .before .before .args in
-    written-all (record { parents = now (a .parents); labels = now (a .labels) }) _ (now (a .room)) (l .room) (l .i) (omega arith)
+    written-all (documentOf (now (a .parents)) (now (a .labels))) _ (now (a .room)) (l .room) (l .i) (omega arith)
     (c .before .before .before .before .put-head .ensures) (l .inv)
 
 pub put-document-spec : {M : Type 1} → statement M

@@ -1,5 +1,6 @@
 -- `station::contained::put_witness` meets its contract: a document and then a node. Assumes nothing.
 use denote.Ref.{now}
+use Rattle.tables.specs.Document.{documentOf}
 use Rattle.station.proofs.WitnessBytes.{written-node}
 use borrow.Author.Needs.{needs}
 use Rattle.station.proofs.contained.put_witness.Statement.{statement}
@@ -8,7 +9,7 @@ use Rattle.station.proofs.contained.put_witness.Tie as tie
 returns : tie.Need-returns
 returns c =
     let a = c .before .before .before .before .before .before .before .before .before .before .before .args in
-    written-node (record { parents = now (a .parents); labels = now (a .labels) }) (now (a .room)) _ _ (a .node)
+    written-node (documentOf (now (a .parents)) (now (a .labels))) (now (a .room)) _ _ (a .node)
     (c .before .before .before .before .before .before .put-document .ensures) (c .before .before .put-half .ensures)
 
 pub put-witness-spec : {M : Type 1} → statement M

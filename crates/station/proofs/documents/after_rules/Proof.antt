@@ -2,6 +2,7 @@
 use mathlib.Core.Path.{refl, subst}
 use mathlib.Core.Logic.{inl, inr, ⊎-elim}
 use denote.Ref.{now}
+use Rattle.tables.specs.Document.{documentOf}
 use Rattle.tables.specs.Checks.{ChecksDocument}
 use Rattle.tables.specs.declared.Refusal.the-variants.{BadDocument}
 use Rattle.tables.proofs.Refusals.{number-unique}
@@ -12,7 +13,7 @@ use Rattle.station.proofs.documents.after_rules.Tie as tie
 returns : tie.Need-returns
 returns c =
     let a = c .before .before .before .before .before .args in
-    let v = subst (ChecksDocument (record { parents = now (a .parents); labels = now (a .labels) })) (c .enum-told .given .1)
+    let v = subst (ChecksDocument (documentOf (now (a .parents)) (now (a .labels)))) (c .enum-told .given .1)
     (c .before .before .check-document .ensures) in
     record { says = inr (v .0 .0, refl) }
 
@@ -20,7 +21,7 @@ returns-2 : tie.Need-returns-2
 returns-2 c =
     let a = c .before .before .before .before .before .before .args in
     let q = c .before .q .given .0 .0 in
-    let v = subst (ChecksDocument (record { parents = now (a .parents); labels = now (a .labels) })) (c .before .q .given .1)
+    let v = subst (ChecksDocument (documentOf (now (a .parents)) (now (a .labels)))) (c .before .q .given .1)
     (c .before .before .before .check-document .ensures) in
     record { says = ⊎-elim (λ w. inl (w .0, number-unique q BadDocument (w .1))) (λ w. absurd (w .1)) (v .0) }
 

@@ -1,6 +1,7 @@
 -- `station::lists::list_started` meets its contract: the packet is read, and the call answers. Assumes nothing.
 use mathlib.Core.Path.{_≡_, refl, subst}
 use denote.Ref.{now}
+use Rattle.tables.specs.Document.{documentOf}
 use Rattle.tables.specs.Pattern.{zeroPattern}
 use Rattle.tables.specs.Refusal.{Decided}
 use Rattle.packets.specs.PatternPacket.{patternChecks}
@@ -16,7 +17,7 @@ returns c =
     let a = c .before .before .before .before .before .before .before .before .before .before .args in
     let h = subst (λ r. Decided (patternChecks (now (a .pattern))) r (x .result .pattern ≡ packetPattern (now (a .pattern)))
     (x .result .pattern ≡ zeroPattern)) (c .before .read .given .1) (x .ensures) in
-    started-unread (record { parents = now (a .parents); labels = now (a .labels) }) (now (a .pattern)) (now (a .list)) (now (a .work)) _ _ (now (a .starts))
+    started-unread (documentOf (now (a .parents)) (now (a .labels))) (now (a .pattern)) (now (a .list)) (now (a .work)) _ _ (now (a .starts))
     (c .before .read .given .0 .0) (h .0) refl refl
 
 returns-2 : tie.Need-returns-2
@@ -26,7 +27,7 @@ returns-2 c =
     let w = c .before .before .before .before .started in
     let h = subst (λ r. Decided (patternChecks (now (a .pattern))) r (x .result .pattern ≡ packetPattern (now (a .pattern)))
     (x .result .pattern ≡ zeroPattern)) (c .before .before .before .before .before .before .before .enum-told .given .1) (x .ensures) in
-    started-read (record { parents = now (a .parents); labels = now (a .labels) }) (now (a .pattern)) (now (a .list)) (now (a .work)) (w .last .1 .1 .1 .1 .0)
+    started-read (documentOf (now (a .parents)) (now (a .labels))) (now (a .pattern)) (now (a .list)) (now (a .work)) (w .last .1 .1 .1 .1 .0)
     (w .last .1 .1 .1 .1 .1 .0) (now (a .starts)) (x .result .pattern) (w .result) h (w .ensures)
 
 pub list-started-spec : {M : Type 1} → statement M

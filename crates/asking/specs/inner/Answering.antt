@@ -7,7 +7,7 @@ use Rattle.tables.specs.declared.Pattern.{Pattern}
 use Rattle.placing.specs.Answer.{Lists}
 use Rattle.asking.specs.Text.{line}
 use Rattle.asking.specs.Replies.{ThirdLine, Answered}
-use Rattle.asking.specs.Writing.{Wrote}
+use Rattle.asking.specs.inner.Writing.{Wrote}
 
 -- the first c entries of a list are the numbers of which P holds
 pub record Finds (P : ℕ → Type 0) (c : ℕ) (list : List ℕ) : Type 0 where

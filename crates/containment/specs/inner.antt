@@ -1,0 +1,4 @@
+-- What only private functions cite: a reader of the public contracts need not read it. Assumes nothing.
+pub mod Feasible
+pub mod Lookup
+pub mod Verdict
