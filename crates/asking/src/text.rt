@@ -1,6 +1,6 @@
 // Writers of the lines that `ask` prints. Each puts a text at byte `at` and answers the byte past it.
 ghost use Prim.Native.Nat.{_+_, _≤_};
-ghost use mathlib.Core.List.{[], _∷_};
+ghost use mathlib.Core.List.{[], _∷_, _++_};
 ghost use lib.ListN.{length};
 ghost use Rattle.asking.specs.Text.{decimal, item, spaced, line, refusedLine};
 ghost use Rattle.asking.specs.inner.Writing.{Wrote};
@@ -63,16 +63,24 @@ fn put_list(out: &mut [u8], at: usize, list: &[u16]) -> usize
     next
 }
 
+// A word, and a number after a space.
+fn put_named(out: &mut [u8], at: usize, word: &[u8], n: usize) -> usize
+    requires { ⌜ at + (length (now word) + length (item n)) ≤ length (now out) ⌝ }
+    ensures { λ r. ⌜ Wrote (now (out .entry)) at (now (word .entry) ++ item n) r (now (out .exit)) ⌝ }
+{
+    let next = put_word(out, at, word);
+    put_item(out, next, n)
+}
+
 // A word's line: how many numbers a list has, and the numbers.
 pub(crate) fn put_line(out: &mut [u8], at: usize, word: &[u8], list: &[u16]) -> usize
     requires { ⌜ at + length (line (now word) (now list)) ≤ length (now out) ⌝ }
     ensures { λ r. ⌜ Wrote (now (out .entry)) at (line (now (word .entry)) (now (list .entry))) r (now (out .exit)) ⌝ }
 {
-    let counted = put_word(out, at, word);
-    let colon = put_item(out, counted, list.len());
-    let listed = put_byte(out, colon, 58);
-    let end = put_list(out, listed, list);
-    put_byte(out, end, 10)
+    let counted = put_named(out, at, word, list.len());
+    let begun = put_byte(out, counted, 58);
+    let listed = put_list(out, begun, list);
+    put_byte(out, listed, 10)
 }
 
 // The line of a refusal: its number, and the word for what is refused.
@@ -80,9 +88,8 @@ pub(crate) fn put_refused(out: &mut [u8], at: usize, number: usize, word: &[u8])
     requires { ⌜ at + length (refusedLine number (now word)) ≤ length (now out) ⌝ }
     ensures { λ r. ⌜ Wrote (now (out .entry)) at (refusedLine number (now (word .entry))) r (now (out .exit)) ⌝ }
 {
-    let numbered = put_word(out, at, b"refused");
-    let gap = put_item(out, numbered, number);
-    let named = put_byte(out, gap, 32);
-    let end = put_word(out, named, word);
-    put_byte(out, end, 10)
+    let numbered = put_named(out, at, b"refused", number);
+    let begun = put_byte(out, numbered, 32);
+    let named = put_word(out, begun, word);
+    put_byte(out, named, 10)
 }
