@@ -21,7 +21,7 @@ use Rattle.rewriting.specs.Candidate.{mainPath, cutStep, Cut, Candidate}
 use Rattle.rewriting.specs.Rewriting.{Serves}
 use Rattle.rewriting.proofs.Cuts.{cutShape, cut-shape, cut-valid, cut-unique, cut-agree, cut-some, cut-small}
 use Rattle.rewriting.proofs.MainPath.{cut-on-path, cut-step-is}
-use Rattle.rewriting.proofs.Serving.{reaches, same-label, join-to-query, query-to-join, narrowest}
+use Rattle.rewriting.proofs.Serving.{EqualJoin, CutAt, reaches, same-label, join-to-query, query-to-join, narrowest}
 
 module _ (Q U : Pattern) (vq : ValidPattern Q) (vu : ValidPattern U) where
   c : ℕ
@@ -99,17 +99,25 @@ module _ (Q U E : Pattern) (vq : ValidPattern Q) (vu : ValidPattern U) (s : Serv
   unfolding J
   to-query = contained-iff (shapeOf Q) J vq (pair-valid pair) .0 (s .equal .back)
 
-  joined-pair : Joined (shapeOf U) (shapeOf E) J (added (shapeOf E))
+  equal-join : EqualJoin (shapeOf Q) (shapeOf U) (shapeOf E) J (added (shapeOf E)) (to-join .0) (to-query .0)
   unfolding J
-  joined-pair = pair-joined pair
+  equal-join = record {
+    joined = pair-joined pair;
+    query = shape-ordered vq;
+    view = shape-ordered vu;
+    tail = shape-ordered (pair .tail);
+    join = shape-ordered (pair-valid pair);
+    query-output = vq .output;
+    view-output = vu .output;
+    tail-output = pair .tail .output;
+    same = pair .same;
+    to = to-join .1;
+    back = to-query .1;
+  }
 
   -- then the query's main path is long enough
   cut-there : (k : ℕ) × From (shapeOf Q .tree) k (shapeOf Q .output) × (depth (shapeOf Q .tree) k ≡ depth (shapeOf U .tree) (shapeOf U .output))
-  unfolding J
-  cut-there =
-      reaches joined-pair (shape-ordered vq) (shape-ordered vu) (shape-ordered (pair .tail)) (shape-ordered (pair-valid pair)) (vq .output) (vu .output)
-      (pair .tail .output)
-      (to-join .1) (to-query .1)
+  cut-there = reaches equal-join
 
   long-enough : length (mainPath (shapeOf U)) ≤ length (mainPath (shapeOf Q))
   long-enough = cut-step-is vq vu (cut-there .0) (cut-there .1) (cut-there .2) .0
@@ -124,12 +132,9 @@ module _ (Q U E : Pattern) (vq : ValidPattern Q) (vu : ValidPattern U) (s : Serv
   here-cut : cut < shapeOf Q .tree .size
   here-cut = omega (arith, from-le (shape-ordered vq) cut (shapeOf Q .output) (main .0), vq .output)
 
-  -- the label of the view's output step is that of the cut's step 0
-  cut-label : (C : Shape) → Cut (shapeOf Q) cut C → ValidShape C → shapeOf U .label (shapeOf U .output) ≡ C .label 0
-  unfolding J
-  cut-label C k v =
-      same-label joined-pair k (shape-ordered vq) (shape-ordered vu) (shape-ordered (pair .tail)) (shape-ordered (pair-valid pair)) (shape-ordered v)
-      (vq .output) (vu .output) (pair .tail .output) (v .output) (pair .same) (to-join .1) (to-query .1) (main .0) (main .1)
+  -- a cut there that obeys the rules
+  cut-at : (C : Shape) → Cut (shapeOf Q) cut C → ValidShape C → CutAt (shapeOf Q) (shapeOf U) cut C
+  cut-at C k v = record { cut = k; main = main .0; deep = main .1; ordered = shape-ordered v; output = v .output }
 
   -- so there is a candidate
   pub candidate-there : Candidate Q U (patternOf (cutShape (shapeOf Q) (cutStep (shapeOf Q) (shapeOf U))))
@@ -138,7 +143,8 @@ module _ (Q U E : Pattern) (vq : ValidPattern Q) (vu : ValidPattern U) (s : Serv
       let k : Cut (shapeOf Q) cut (cutShape (shapeOf Q) cut) = cut-shape (shape-ordered vq) cut here-cut (main .0) in
       let v : ValidShape (cutShape (shapeOf Q) cut) = cut-valid vq k here-cut (main .0) in
       let z : cut + 0 ≡ cut = omega arith in
-      candidate-exists Q U vq vu long-enough (cut-label (cutShape (shapeOf Q) cut) k v ∙ sym (k .label 0 (v .some)) ∙ ap (shapeOf Q .label) z)
+      candidate-exists Q U vq vu long-enough (same-label equal-join (cut-at (cutShape (shapeOf Q) cut) k v) ∙ sym (k .label 0 (v .some)) ∙ ap
+      (shapeOf Q .label) z)
 
   module _ (C : Pattern) (k : Candidate Q U C) where
     own : Cut (shapeOf Q) cut (shapeOf C)
@@ -148,28 +154,23 @@ module _ (Q U E : Pattern) (vq : ValidPattern Q) (vu : ValidPattern U) (s : Serv
     valid : ValidPattern C
     valid = candidate-valid Q U vq vu k
 
+    own-at : CutAt (shapeOf Q) (shapeOf U) cut (shapeOf C)
+    own-at = cut-at (shapeOf C) own valid
+
     -- it is contained in E
     pub candidate-narrowest : Contained (shapeOf C) (shapeOf E)
-    unfolding J
-    candidate-narrowest = maps-sound
-        (narrowest joined-pair own (shape-ordered vq) (shape-ordered vu) (shape-ordered (pair .tail)) (shape-ordered (pair-valid pair)) (shape-ordered valid)
-        (vq .output) (vu .output) (pair .tail .output) (valid .output) (pair .same) (to-join .1) (to-query .1) (main .0) (main .1) (own .first-axis))
+    candidate-narrowest = maps-sound (narrowest equal-join own-at (own .first-axis))
 
     -- and serves
     pub candidate-serves : Q .count ≤ 32 → U .count ≤ 32 → Serves Q U C
-    unfolding J
     candidate-serves q u =
         let w : Joinable U C = candidate-joinable Q U vq vu k q u in
         let p : Pair U C = pair-of U C w in
         record {
           joinable = w;
           equal = record {
-            to = maps-sound (query-to-join joined-pair own (shape-ordered vq) (shape-ordered vu) (shape-ordered (pair .tail))
-                (shape-ordered (pair-valid pair)) (shape-ordered valid)
-                (vq .output) (vu .output) (pair .tail .output) (valid .output) (pair .same) (to-join .1) (to-query .1) (main .0) (main .1) (pair-joined p));
-            back = maps-sound (join-to-query joined-pair own (shape-ordered vq) (shape-ordered vu) (shape-ordered (pair .tail))
-                (shape-ordered (pair-valid pair)) (shape-ordered valid)
-                (vq .output) (vu .output) (pair .tail .output) (valid .output) (pair .same) (to-join .1) (to-query .1) (main .0) (main .1) (pair-joined p));
+            to = maps-sound (query-to-join equal-join own-at (pair-joined p));
+            back = maps-sound (join-to-query equal-join own-at (pair-joined p));
           };
         }
 

@@ -46,63 +46,81 @@ module _ {U E J : Shape} {e : ℕ} (j : Joined U E J e) (lo : U .output < U .tre
   pub joint : Ordered (E .tree) → E .output < E .tree .size → From (J .tree) (U .output) (J .output)
   joint ve le = subst₂ (From (J .tree)) {x = U .output + 0} (omega arith) (sym (j .output)) (tail-from j lo 0 (E .output) (from-root ve (E .output) le))
 
+-- Q is equal to the join J of U with E, by mappings both ways
+pub record EqualJoin (Q U E J : Shape) (e : ℕ) (h g : ℕ → ℕ) : Type 0 where
+  pub joined : Joined U E J e
+  pub query : Ordered (Q .tree)
+  pub view : Ordered (U .tree)
+  pub tail : Ordered (E .tree)
+  pub join : Ordered (J .tree)
+  pub query-output : Q .output < Q .tree .size
+  pub view-output : U .output < U .tree .size
+  pub tail-output : E .output < E .tree .size
+  pub same : U .label (U .output) ≡ E .label 0
+  pub to : Maps Q J h
+  pub back : Maps J Q g
+
+-- C is the cut of Q at the step of its main path that is as deep as U's output
+pub record CutAt (Q U : Shape) (c : ℕ) (C : Shape) : Type 0 where
+  pub cut : Cut Q c C
+  pub main : From (Q .tree) c (Q .output)
+  pub deep : depth (Q .tree) c ≡ depth (U .tree) (U .output)
+  pub ordered : Ordered (C .tree)
+  pub output : C .output < C .tree .size
+
 -- the joint goes to a step of the query's main path that is as deep as the view's output
-pub reaches : {Q U E J : Shape} {e : ℕ} {h g : ℕ → ℕ} → Joined U E J e
-    → Ordered (Q .tree) → Ordered (U .tree) → Ordered (E .tree) → Ordered (J .tree)
-    → Q .output < Q .tree .size → U .output < U .tree .size → E .output < E .tree .size
-    → Maps Q J h → Maps J Q g → (c : ℕ) × From (Q .tree) c (Q .output) × (depth (Q .tree) c ≡ depth (U .tree) (U .output))
-reaches {Q} {U} {E} {J} {e} {h} {g} jj vq vu ve vj lq lu le hm gm = (
+pub reaches : {Q U E J : Shape} {e : ℕ} {h g : ℕ → ℕ} → EqualJoin Q U E J e h g
+    → (c : ℕ) × From (Q .tree) c (Q .output) × (depth (Q .tree) c ≡ depth (U .tree) (U .output))
+reaches {Q} {U} {E} {J} {e} {h} {g} x = (
   g (U .output),
-  subst (From (Q .tree) (g (U .output))) (gm .output) (from-sends Q vj vq (gm .sends) (joint jj lu vu vj ve le)),
-  keeps vq vj lq hm gm (U .output) (omega (arith, jj .size)) (joint jj lu vu vj ve le)
-      ∙ ap (depth (J .tree)) (sym (renumber-low (U .output) e (U .output) (omega arith))) ∙ view-depth-to jj lu vu vj (U .output) (U .output) (omega arith) lu,
+  subst (From (Q .tree) (g (U .output))) (x .back .output) (from-sends Q (x .join) (x .query) (x .back .sends)
+      (joint (x .joined) (x .view-output) (x .view) (x .join) (x .tail) (x .tail-output))),
+  keeps (x .query) (x .join) (x .query-output) (x .to) (x .back) (U .output) (omega (arith, x .joined .size))
+      (joint (x .joined) (x .view-output) (x .view) (x .join) (x .tail) (x .tail-output))
+      ∙ ap (depth (J .tree)) (sym (renumber-low (U .output) e (U .output) (omega arith))) ∙ view-depth-to (x .joined) (x .view-output) (x .view) (x .join)
+      (U .output) (U .output) (omega arith) (x .view-output),
 )
 
--- Q is equal to the join J of U with some E, and C is Q's cut at the depth of U's output
-module _ {Q U E J C : Shape} {e c : ℕ} {h g : ℕ → ℕ}
-    (jj : Joined U E J e) (cut : Cut Q c C)
-    (vq : Ordered (Q .tree)) (vu : Ordered (U .tree)) (ve : Ordered (E .tree)) (vj : Ordered (J .tree)) (vc : Ordered (C .tree))
-    (lq : Q .output < Q .tree .size) (lu : U .output < U .tree .size) (le : E .output < E .tree .size) (lc : C .output < C .tree .size)
-    (same : U .label (U .output) ≡ E .label 0) (hm : Maps Q J h) (gm : Maps J Q g)
-    (main : From (Q .tree) c (Q .output)) (deep : depth (Q .tree) c ≡ depth (U .tree) (U .output)) where
+-- the query is equal to the join, and C is its cut
+module _ {Q U E J C : Shape} {e c : ℕ} {h g : ℕ → ℕ} (x : EqualJoin Q U E J e h g) (w : CutAt Q U c C) where
   low : (n : ℕ) → renumber (U .output) n (U .output) ≡ U .output
   low n = renumber-low (U .output) n (U .output) (omega arith)
 
   joint-small : U .output < J .tree .size
-  joint-small = omega (arith, jj .size)
+  joint-small = omega (arith, x .joined .size)
 
   here : c < Q .tree .size
-  here = omega (arith, from-le vq c (Q .output) main)
+  here = omega (arith, from-le (x .query) c (Q .output) (w .main))
 
   -- the joint goes to the cut
   meets : g (U .output) ≡ c
   unfolding reaches
-  meets = let r = reaches jj vq vu ve vj lq lu le hm gm in depth-unique vq (g (U .output)) c (Q .output) (r .1) main (r .2 ∙ sym deep)
+  meets = let r = reaches x in depth-unique (x .query) (g (U .output)) c (Q .output) (r .1) (w .main) (r .2 ∙ sym (w .deep))
 
   -- so the labels agree, and the cut can be joined to the view
   pub same-label : U .label (U .output) ≡ C .label 0
   same-label =
-      sym (jj .view-label (U .output) lu) ∙ ap (J .label) (low e) ∙ sym (gm .sends .takes (U .output) joint-small .fits .same)
-      ∙ ap (Q .label) (meets ∙ omega arith) ∙ cut .label 0 (vc .some)
+      sym (x .joined .view-label (U .output) (x .view-output)) ∙ ap (J .label) (low e) ∙ sym (x .back .sends .takes (U .output) joint-small .fits .same)
+      ∙ ap (Q .label) (meets ∙ omega arith) ∙ w .cut .label 0 (w .ordered .some)
 
   -- and the cut is contained in every such E
   pub narrowest : C .axis 0 ≡ 0 → Maps E C (λ t. g (U .output + t) - c)
   narrowest a =
       let y : g (U .output + 0) ≡ c = ap g (omega arith) ∙ meets in
-      let n : g (U .output + E .output) ≡ Q .output = ap g (sym (jj .output)) ∙ gm .output in
+      let n : g (U .output + E .output) ≡ Q .output = ap g (sym (x .joined .output)) ∙ x .back .output in
       record {
-        sends = cut-back vq cut here ve (split-tail jj lu same (rowsOf Q) (gm .sends)) y;
+        sends = cut-back (x .query) (w .cut) here (x .tail) (split-tail (x .joined) (x .view-output) (x .same) (rowsOf Q) (x .back .sends)) y;
         first = λ b. (omega arith, a);
-        output = omega (arith, cut .output);
+        output = omega (arith, w .cut .output);
       }
 
   -- the join K of U with the cut
   module _ {K : Shape} {k : ℕ} (jk : Joined U C K k) where
     axis-j : J .axis 0 ≡ U .axis 0
-    axis-j = first-axis jj lu
+    axis-j = first-axis (x .joined) (x .view-output)
 
     axis-k : K .axis 0 ≡ U .axis 0
-    axis-k = first-axis jk lu
+    axis-k = first-axis jk (x .view-output)
 
     pub kq : ℕ → ℕ
     kq = both (U .output) k (λ s. g (renumber (U .output) e s)) (λ t. c + t)
@@ -113,14 +131,16 @@ module _ {Q U E J C : Shape} {e c : ℕ} {h g : ℕ → ℕ}
     join-to-query =
         let z : g (renumber (U .output) e (U .output)) ≡ c + 0 = ap g (low e) ∙ meets ∙ omega arith in
         record {
-          sends = glue jk lu same-label (rowsOf Q) vc (split-view jj lu same (rowsOf Q) (gm .sends)) (cut-into vq cut here) z;
-          first = λ a. let s = gm .first (axis-j ∙ sym axis-k ∙ a) in (
-            both-view (U .output) k (λ s. g (renumber (U .output) e s)) (λ t. c + t) 0 0 (sym (renumber-zero jk lu)) ∙ ap g (renumber-zero jj lu) ∙ s .0,
+          sends = glue jk (x .view-output) same-label (rowsOf Q) (w .ordered) (split-view (x .joined) (x .view-output) (x .same) (rowsOf Q) (x .back .sends))
+              (cut-into (x .query) (w .cut) here) z;
+          first = λ a. let s = x .back .first (axis-j ∙ sym axis-k ∙ a) in (
+            both-view (U .output) k (λ s. g (renumber (U .output) e s)) (λ t. c + t) 0 0 (sym (renumber-zero jk (x .view-output))) ∙ ap g
+                (renumber-zero (x .joined) (x .view-output)) ∙ s .0,
             s
                 .1,
           );
           output = ap kq (jk .output) ∙ both-tail (U .output) k (λ s. g (renumber (U .output) e s)) (λ t. c + t) z (C .output) (omega (arith, jk .more)) ∙ sym
-              (cut .output);
+              (w .cut .output);
         }
 
     tail-jk : ℕ → ℕ
@@ -135,19 +155,21 @@ module _ {Q U E J C : Shape} {e c : ℕ} {h g : ℕ → ℕ}
     join-to-join =
         let y : g (U .output + 0) ≡ c = ap g (omega arith) ∙ meets in
         let z : renumber (U .output) k (U .output) ≡ U .output + (g (U .output + 0) - c) = omega (arith, low k) in
-        let n : g (U .output + E .output) ≡ Q .output = ap g (sym (jj .output)) ∙ gm .output in
+        let n : g (U .output + E .output) ≡ Q .output = ap g (sym (x .joined .output)) ∙ x .back .output in
         record {
-          sends = glue jj lu same (rowsOf K) ve (split-view jk lu same-label (rowsOf K) (identity K))
-              (compose (cut-back vq cut here ve (split-tail jj lu same (rowsOf Q) (gm .sends)) y) (split-tail jk lu same-label (rowsOf K) (identity K))) z;
+          sends = glue (x .joined) (x .view-output) (x .same) (rowsOf K) (x .tail) (split-view jk (x .view-output) same-label (rowsOf K) (identity K))
+              (compose (cut-back (x .query) (w .cut) here (x .tail) (split-tail (x .joined) (x .view-output) (x .same) (rowsOf Q) (x .back .sends)) y)
+              (split-tail jk (x .view-output) same-label (rowsOf K) (identity K))) z;
           first = λ a. (
-            both-view (U .output) e (renumber (U .output) k) tail-jk 0 0 (sym (renumber-zero jj lu)) ∙ renumber-zero jk lu,
+            both-view (U .output) e (renumber (U .output) k) tail-jk 0 0 (sym (renumber-zero (x .joined) (x .view-output))) ∙ renumber-zero jk (x .view-output),
             axis-k ∙ sym axis-j ∙
                 a,
           );
-          output = ap jk-map (jj .output) ∙ both-tail (U .output) e (renumber (U .output) k) tail-jk z (E .output) (omega (arith, jj .more)) ∙ omega
-              (arith, n, cut .output, jk .output);
+          output = ap jk-map (x .joined .output) ∙ both-tail (U .output) e (renumber (U .output) k) tail-jk z (E .output) (omega (arith, x .joined .more)) ∙
+              omega
+              (arith, n, w .cut .output, jk .output);
         }
 
     -- and the query into it
     pub query-to-join : Maps Q K (λ t. jk-map (h t))
-    query-to-join = maps-compose hm join-to-join
+    query-to-join = maps-compose (x .to) join-to-join
