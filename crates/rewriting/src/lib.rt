@@ -112,20 +112,16 @@ fn agree(q: Pattern, v: Pattern, c: usize) -> bool
 {
     let mut s = c;
     let mut t = v.output.0 as usize;
-    if q.label[s] != v.label[t] {
-        return false;
-    }
-    while 0 < t {
-        if q.axis[s] != v.axis[t] {
+    loop {
+        if q.label[s] != v.label[t] || q.axis[s] != v.axis[t] {
             return false;
+        }
+        if t == 0 {
+            return true;
         }
         s = q.parent[s] as usize;
         t = v.parent[t] as usize;
-        if q.label[s] != v.label[t] {
-            return false;
-        }
     }
-    q.axis[s] == v.axis[t]
 }
 
 // Is there a candidate that may serve, and which? The pattern is zero where there is none.
