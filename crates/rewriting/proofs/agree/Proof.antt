@@ -4,10 +4,12 @@ use mathlib.Core.Path.{_≡_, refl, sym, ap, _∙_}
 use mathlib.Core.Logic.{_⊎_, inl, inr, ⊎-elim}
 use native.Mathlib.Omega.{arith}
 use native.Mathlib.Nat.{eq-zero-or-pos}
+use lib.Dec.{eqb}
 use lib.ListN.{getD}
 use borrow.Author.Needs.{needs}
 use Rattle.tables.specs.Pattern.{shapeOf}
 use Rattle.tables.specs.declared.Pattern.{Pattern}
+use Rattle.tables.proofs.Tests.{failed, tells-eq}
 use Rattle.rewriting.proofs.Paths.{Level, level-start, query-here, view-here, level-up, labels-agree, axes-agree}
 use Rattle.rewriting.proofs.agree.Statement.{statement}
 use Rattle.rewriting.proofs.agree.Tie as tie
@@ -75,10 +77,12 @@ element-copy-out-if2-2 c = view-few (c .before .before .before .before)
 returns : tie.Need-returns Inv-loop μ-loop
 returns c =
     let x = c .before .before .before in
+    let a = start x .args in
     let p = start x .pre .0 in (
       λ z. absurd z,
       λ E w. ⊎-elim (λ n. n .taken (labels-agree _ _ E (p .0) (p .1) w (x .loop .inv .0)))
-          (λ n. n .3 .taken (axes-agree _ _ E (p .0) (p .1) w (x .loop .inv .0)))
+          (λ n. failed (eqb (getD (a .t1 .axis) (x .loop .s) 0) (getD (a .t2 .axis) (x .loop .t) 0)) (n .3 .taken)
+          (tells-eq _ _ .test (axes-agree _ _ E (p .0) (p .1) w (x .loop .inv .0))))
           (c .if1 .came),
     )
 
