@@ -60,7 +60,7 @@ fn join_table(v: Pattern, e: Pattern) -> Pattern
 }
 
 // A refusal, with the zero pattern beside it.
-fn refused(r: Refusal) -> JoinAnswer
+fn beside(r: Refusal) -> JoinAnswer
     ensures { λ a. ⌜ (a .answer ≡ Refused r) × (a .pattern ≡ zeroPattern) ⌝ }
 {
     JoinAnswer {
@@ -75,20 +75,20 @@ pub fn join(v: Pattern, e: Pattern) -> JoinAnswer
     ensures { λ r. ⌜ Joins v e r ⌝ }
 {
     if let Checked::Refused(r) = tables::check_pattern(v) {
-        return refused(r);
+        return beside(r);
     }
     if let Checked::Refused(r) = tables::check_pattern(e) {
-        return refused(r);
+        return beside(r);
     }
     if e.axis[0] != 0 {
-        return refused(Refusal::Start);
+        return beside(Refusal::Start);
     }
     let o = v.output.0 as usize;
     if v.label[o] != e.label[0] {
-        return refused(Refusal::OtherLabel);
+        return beside(Refusal::OtherLabel);
     }
     if 64 < v.count + (e.count - 1) {
-        return refused(Refusal::TooLarge);
+        return beside(Refusal::TooLarge);
     }
     JoinAnswer {
         answer: Checked::Right,

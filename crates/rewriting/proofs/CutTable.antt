@@ -10,7 +10,7 @@ use Rattle.tables.proofs.Rules.{shape-ordered}
 use Rattle.tables.proofs.Trees.{from-le}
 use Rattle.rewriting.specs.Candidate.{Cut}
 use Rattle.rewriting.proofs.Cuts.{cutShape, cut-shape, cut-valid, cut-small}
-use Rattle.rewriting.proofs.Taken.{Whole}
+use Rattle.rewriting.proofs.CutSize.{Whole}
 
 module _ (q : Pattern) (v : ValidPattern q) (c : ℕ) (w : From (shapeOf q .tree) c (shapeOf q .output)) where
   -- the step is one of the pattern's

@@ -1,7 +1,7 @@
 -- The theory of rewriting. Assumes nothing.
 pub mod MainPath
-pub mod Climbed
-pub mod Taken
+pub mod MainClimb
+pub mod CutSize
 pub mod Cuts
 pub mod CutTable
 pub mod CutSends

@@ -125,19 +125,19 @@ fn agree(q: Pattern, v: Pattern, c: usize) -> bool
 }
 
 // Is there a candidate that may serve, and which? The pattern is zero where there is none.
-struct Found {
+struct Tried {
     there: bool,
     pattern: Pattern,
 }
 
 // The candidate for a query by a view: the query's cut at the step of its main path that is as deep as the view's output step, where there is such a step
 // and it has the label of that one. None, too, where the main paths differ up to there.
-fn candidate(q: Pattern, v: Pattern) -> Found
+fn candidate(q: Pattern, v: Pattern) -> Tried
     requires { ⌜ ValidPattern q ⌝ }
     requires { ⌜ ValidPattern v ⌝ }
     ensures { λ r. ⌜ (T (r .there) → Candidate q v (r .pattern)) × ((E : Pattern) → Candidate q v E → Serves q v E → T (r .there)) ⌝ }
 {
-    let none = Found {
+    let none = Tried {
         there: false,
         pattern: tables::no_pattern(),
     };
@@ -150,7 +150,7 @@ fn candidate(q: Pattern, v: Pattern) -> Found
     if !agree(q, v, c) {
         return none;
     }
-    Found {
+    Tried {
         there: true,
         pattern: cut(q, c),
     }

@@ -33,21 +33,21 @@ returns c =
     let k = c .before .before .before .before in
     let a = k .before .args in
     let v = subst (ChecksPattern (a .t1)) (c .before .before .r .given .1) (k .check-pattern .ensures) in
-    refuse (a .t1) (a .t2) (c .before .before .r .given .0 .0) (c .refused .result) (c .refused .ensures) (⊎-elim inl (λ w. absurd (w .1)) (v .0))
+    refuse (a .t1) (a .t2) (c .before .before .r .given .0 .0) (c .beside .result) (c .beside .ensures) (⊎-elim inl (λ w. absurd (w .1)) (v .0))
 
 returns-2 : tie.Need-returns-2
 returns-2 c =
     let k = c .before .before .before .before in
     let a = k .before .before .before .before .args in
     let v = subst (ChecksPattern (a .t2)) (c .before .before .r2 .given .1) (k .check-pattern2 .ensures) in
-    refuse (a .t1) (a .t2) (c .before .before .r2 .given .0 .0) (c .refused2 .result) (c .refused2 .ensures)
+    refuse (a .t1) (a .t2) (c .before .before .r2 .given .0 .0) (c .beside2 .result) (c .beside2 .ensures)
     (inr (view (k .before), ⊎-elim inl (λ w. absurd (w .1)) (v .0)))
 
 returns-3 : tie.Need-returns-3
 returns-3 c =
     let x = c .before .before .before in
     let a = x .before .before .before .before .before .before .args in
-    refuse (a .t1) (a .t2) Start (c .refused3 .result) (c .refused3 .ensures)
+    refuse (a .t1) (a .t2) Start (c .beside3 .result) (c .beside3 .ensures)
     (inr (view (x .before .before .before), inr (tail x, inl (λ e. omega arith, refl))))
 
 element-copy-out-if2 : tie.Need-element-copy-out-if2
@@ -57,7 +57,7 @@ returns-4 : tie.Need-returns-4
 returns-4 c =
     let x = c .before .before .before .before .before .before in
     let a = x .before .before .before .before .before .before .args in
-    refuse (a .t1) (a .t2) OtherLabel (c .refused4 .result) (c .refused4 .ensures)
+    refuse (a .t1) (a .t2) OtherLabel (c .beside4 .result) (c .beside4 .ensures)
     (inr (view (x .before .before .before), inr (tail x, inr (omega arith, inl (λ e. omega arith, refl)))))
 
 sub-if3 : tie.Need-sub-if3
@@ -70,7 +70,7 @@ returns-5 : tie.Need-returns-5
 returns-5 c =
     let x = c .before .before .before .before .before .before .before in
     let a = x .before .before .before .before .before .before .args in
-    refuse (a .t1) (a .t2) TooLarge (c .refused5 .result) (c .refused5 .ensures)
+    refuse (a .t1) (a .t2) TooLarge (c .beside5 .result) (c .beside5 .ensures)
     (inr (view (x .before .before .before), inr (tail x, inr (omega arith, inr (omega arith, inl (λ e. omega arith, refl))))))
 
 join-table-requires : tie.Need-join-table-requires

@@ -3,7 +3,7 @@ use Prim.Native.Nat.{_-_}
 use borrow.Author.Needs.{needs}
 use Rattle.tables.specs.Pattern.{shapeOf}
 use Rattle.tables.proofs.Rules.{shape-ordered}
-use Rattle.rewriting.proofs.Taken.{Taken, taken-one, taken-next, taken-end, taken-stop}
+use Rattle.rewriting.proofs.CutSize.{Taken, taken-one, taken-next, taken-end, taken-stop}
 use Rattle.rewriting.proofs.cut_size.Statement.{statement}
 use Rattle.rewriting.proofs.cut_size.Tie as tie
 

@@ -2,7 +2,7 @@
 use native.Mathlib.Omega.{arith}
 use borrow.Author.Needs.{needs}
 use Rattle.tables.specs.Pattern.{shapeOf}
-use Rattle.rewriting.proofs.Climbed.{Climbed, climbed-none, climbed-up, climbed-all}
+use Rattle.rewriting.proofs.MainClimb.{Climbed, climbed-none, climbed-up, climbed-all}
 use Rattle.rewriting.proofs.MainPath.{main-length}
 use Rattle.rewriting.proofs.main_length.Statement.{statement}
 use Rattle.rewriting.proofs.main_length.Tie as tie

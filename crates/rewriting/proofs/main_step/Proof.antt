@@ -3,7 +3,7 @@ use Prim.Native.Nat.{_-_, _≤_}
 use native.Mathlib.Omega.{arith}
 use borrow.Author.Needs.{needs}
 use Rattle.tables.specs.Pattern.{shapeOf}
-use Rattle.rewriting.proofs.Climbed.{Climbed, climbed-none, climbed-up, climbed-late}
+use Rattle.rewriting.proofs.MainClimb.{Climbed, climbed-none, climbed-up, climbed-late}
 use Rattle.rewriting.proofs.MainPath.{main-length, main-at}
 use Rattle.rewriting.proofs.main_step.Statement.{statement}
 use Rattle.rewriting.proofs.main_step.Tie as tie
