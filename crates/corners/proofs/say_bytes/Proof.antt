@@ -1,15 +1,14 @@
--- Every entry is read inside the list. Assumes nothing.
-use Prim.Native.Nat.{_-_, _≤_}
-use lib.ListN.{length}
+-- `corners::say_bytes` is safe and ends: every byte that it prints is one of the buffer. Assumes nothing.
+use Prim.Native.Nat.{_-_}
 use borrow.Author.Needs.{needs}
-use Rattle.seven.proofs.say_bytes.Statement.{statement}
-use Rattle.seven.proofs.say_bytes.Tie as tie
+use Rattle.corners.proofs.say_bytes.Statement.{statement}
+use Rattle.corners.proofs.say_bytes.Tie as tie
 
 abbrev Inv-loop : tie.InvT-loop
-Inv-loop bytes c i₀ t4 t5 i = i ≤ length bytes
+Inv-loop bytes i₀ t3 i = Unit {0}
 
 abbrev μ-loop : tie.MeasureT-loop
-μ-loop bytes c i₀ t4 t5 i = length bytes - i
+μ-loop bytes i₀ t3 i = 20 - i
 
 loop-holds : tie.Need-loop-holds Inv-loop μ-loop
 loop-holds c = search needs
@@ -22,4 +21,4 @@ returns c = search needs
 
 pub say-bytes-spec : {M : Type 1} → statement M
 say-bytes-spec = tie.close (tie.spec Inv-loop μ-loop loop-holds (λ c. search needs) (λ c κs. search needs) (λ c. search needs) (λ c κs. search needs)
-    (λ c κs. search needs) (λ c. search needs) (λ c. search needs) loop-again (λ c. search needs) (λ c κs. search needs) returns)
+    (λ c κs. search needs) (λ c. search needs) (λ c. search needs) loop-again returns)

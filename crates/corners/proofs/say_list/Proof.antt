@@ -1,15 +1,14 @@
--- Every entry is read inside the list. Assumes nothing.
-use Prim.Native.Nat.{_-_, _≤_}
-use lib.ListN.{length}
+-- `corners::say_list` is safe and ends: every entry that it prints is one of the list. Assumes nothing.
 use borrow.Author.Needs.{needs}
-use Rattle.seven.proofs.say_list.Statement.{statement}
-use Rattle.seven.proofs.say_list.Tie as tie
+use Prim.Native.Nat.{_-_}
+use Rattle.corners.proofs.say_list.Statement.{statement}
+use Rattle.corners.proofs.say_list.Tie as tie
 
 abbrev Inv-loop : tie.InvT-loop
-Inv-loop list c i₀ t4 t5 i = i ≤ length list
+Inv-loop list i₀ t3 t4 i-end i = Unit {0}
 
 abbrev μ-loop : tie.MeasureT-loop
-μ-loop list c i₀ t4 t5 i = length list - i
+μ-loop list i₀ t3 t4 i-end i = i-end - i
 
 loop-holds : tie.Need-loop-holds Inv-loop μ-loop
 loop-holds c = search needs
