@@ -20,7 +20,7 @@
 #include <time.h>
 #include <unistd.h>
 
-enum { N = NISHKAVEL_NODES, S = NISHKAVEL_STEPS };
+enum { N = NISHKAVEL_MAX_NODES, S = NISHKAVEL_MAX_STEPS };
 enum { SAMPLES = 1001, SAMPLE_US = 60, ENGINE_US = 300000, ENGINE_SECONDS = 5 };
 
 static int samples = 101;
@@ -44,7 +44,7 @@ struct document {
     int nested;                           /* whether conditions within conditions may have descendant steps; in some documents libxml2 would take hours */
     uint16_t parents[N], labels[N];
     int depth[N], end[N];                 /* the depth of node 0 is 1; the nodes below i are i + 1 to end[i] - 1 */
-    uint8_t packet[NISHKAVEL_DOCUMENT_BYTES];
+    uint8_t packet[NISHKAVEL_MAX_DOCUMENT_BYTES];
     size_t packet_len;
     char *text;                           /* the same as XML */
     size_t text_len;
@@ -390,7 +390,7 @@ static void count_in(struct summary *s, double ratio, const char *where) {
 /* ---- answers ---- */
 
 static struct document *doc;
-static uint8_t pattern[NISHKAVEL_PATTERN_BYTES];
+static uint8_t pattern[NISHKAVEL_MAX_PATTERN_BYTES];
 static size_t pattern_len;
 static uint16_t list[2][N];
 static uint64_t work[2][2 * N];
@@ -560,7 +560,7 @@ static void answers_row(struct document *d, const struct pattern *p, enum kind k
 
 /* ---- containment and rewriting ---- */
 
-static uint8_t first[NISHKAVEL_PATTERN_BYTES], second[NISHKAVEL_PATTERN_BYTES], result[2][600];
+static uint8_t first[NISHKAVEL_MAX_PATTERN_BYTES], second[NISHKAVEL_MAX_PATTERN_BYTES], result[2][600];
 static size_t first_len, second_len;
 
 static int64_t contained_proved(void) { return nishkavel_contained(first, first_len, second, second_len, result[0], sizeof result[0]); }

@@ -14,7 +14,7 @@
  * Example, the frames of strips in the document that the bytes `line` hold:
  *
  *     static const uint8_t frames[] = {1, 0, 9, 1, 255, 1, 0, 2, 0, 1, 0, 3};     // the pattern //strip//frame
- *     uint8_t room[2 * NISHKAVEL_NODES];
+ *     uint8_t room[2 * NISHKAVEL_MAX_NODES];
  *     int64_t count = nishkavel_answers(line, line_len, frames, sizeof frames, room, sizeof room);
  *     for (int64_t k = 0; k < count; k++)
  *         printf("%d\n", room[2 * k] * 256 + room[2 * k + 1]);
@@ -33,24 +33,24 @@ extern "C" {
 
 /* Why a call refuses. The first that applies is given, in the order that each function names. */
 enum nishkavel_refusal {
-    NISHKAVEL_VERSION = 1,      /* the version byte of a packet is not 1 */
-    NISHKAVEL_LENGTH = 2,       /* fewer than 3 bytes, or a length that is not allowed or disagrees with the bytes present */
-    NISHKAVEL_PATTERN = 3,      /* a pattern breaks its rules */
-    NISHKAVEL_DOCUMENT = 4,     /* a document breaks its rules */
-    NISHKAVEL_ROOM = 5,         /* a room or a list is too short */
-    NISHKAVEL_START = 6,        /* a compensation starts with axis descendant, or a start list is not ascending nodes of the document */
-    NISHKAVEL_OTHER_LABEL = 7,  /* the compensation's first label is not that of the view's output step */
-    NISHKAVEL_TOO_LARGE = 8,    /* a join would pass 64 steps, or a query or a view for rewriting passes 32 */
-    NISHKAVEL_NO_LABEL = 9      /* two patterns leave no label for a witness */
+    NISHKAVEL_REFUSED_VERSION = 1,      /* the version byte of a packet is not 1 */
+    NISHKAVEL_REFUSED_LENGTH = 2,       /* fewer than 3 bytes, or a length that is not allowed or disagrees with the bytes present */
+    NISHKAVEL_REFUSED_PATTERN = 3,      /* a pattern breaks its rules */
+    NISHKAVEL_REFUSED_DOCUMENT = 4,     /* a document breaks its rules */
+    NISHKAVEL_REFUSED_ROOM = 5,         /* a room or a list is too short */
+    NISHKAVEL_REFUSED_START = 6,        /* a compensation starts with axis descendant, or a start list is not ascending nodes of the document */
+    NISHKAVEL_REFUSED_OTHER_LABEL = 7,  /* the compensation's first label is not that of the view's output step */
+    NISHKAVEL_REFUSED_TOO_LARGE = 8,    /* a join would pass 64 steps, or a query or a view for rewriting passes 32 */
+    NISHKAVEL_REFUSED_NO_LABEL = 9      /* two patterns leave no label for a witness */
 };
 
 /* Sizes that are always enough. */
 enum {
-    NISHKAVEL_NODES = 2048,           /* nodes of a document */
-    NISHKAVEL_STEPS = 64,             /* steps of a pattern */
-    NISHKAVEL_DOCUMENT_BYTES = 8195,  /* a document packet */
-    NISHKAVEL_PATTERN_BYTES = 260,    /* a pattern packet */
-    NISHKAVEL_CONTAINED_BYTES = 517   /* the room of nishkavel_contained, which needs all of it */
+    NISHKAVEL_MAX_NODES = 2048,           /* nodes of a document */
+    NISHKAVEL_MAX_STEPS = 64,             /* steps of a pattern */
+    NISHKAVEL_MAX_DOCUMENT_BYTES = 8195,  /* a document packet */
+    NISHKAVEL_MAX_PATTERN_BYTES = 260,    /* a pattern packet */
+    NISHKAVEL_MAX_CONTAINED_BYTES = 517   /* the room of nishkavel_contained, which needs all of it */
 };
 
 /* The answers of a pattern in a document. The count c; the first 2c bytes of the room are the answers, ascending, two bytes each, and the bytes past them stay.

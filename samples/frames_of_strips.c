@@ -48,7 +48,7 @@ static int refused(const char *call, int64_t answer)
 
 int main(void)
 {
-    uint8_t stored[2 * NISHKAVEL_NODES], posed[2 * NISHKAVEL_NODES], left[NISHKAVEL_PATTERN_BYTES];
+    uint8_t stored[2 * NISHKAVEL_MAX_NODES], posed[2 * NISHKAVEL_MAX_NODES], left[NISHKAVEL_MAX_PATTERN_BYTES];
 
     /* The view, and its answers, which the catalogue keeps. */
     int64_t count = nishkavel_answers(line, sizeof line, frames, sizeof frames, stored, sizeof stored);

@@ -16,7 +16,7 @@ static size_t next_packet(uint8_t *bytes, size_t room)
 
 int main(void)
 {
-    static uint8_t document[NISHKAVEL_DOCUMENT_BYTES], pattern[NISHKAVEL_PATTERN_BYTES], room[2 * NISHKAVEL_NODES];
+    static uint8_t document[NISHKAVEL_MAX_DOCUMENT_BYTES], pattern[NISHKAVEL_MAX_PATTERN_BYTES], room[2 * NISHKAVEL_MAX_NODES];
     size_t document_len, pattern_len;
     while ((document_len = next_packet(document, sizeof document)) > 0 && (pattern_len = next_packet(pattern, sizeof pattern)) > 0) {
         int64_t count = nishkavel_answers(document, document_len, pattern, pattern_len, room, sizeof room);

@@ -1,6 +1,8 @@
 /* calls.c: each function of nishkavel.h called once, beside the evaluator, and the two compared. */
 #include "calls.h"
 
+#include <string.h>
+
 #include "../include/nishkavel.h"
 
 uint64_t rewritings, handed_over, containments, contained_pairs, bits_fit, bits_placed;
@@ -10,6 +12,13 @@ void pack_document(const struct document *d, struct packet *to) { to->len = put_
 
 /* A pattern's packet. */
 void pack_pattern(const struct pattern *p, struct packet *to) { to->len = put_pattern(p, to->bytes); }
+
+/* Bytes as a packet. */
+void pack_bytes(struct packet *to, const uint8_t *bytes, size_t len)
+{
+    memcpy(to->bytes, bytes, len);
+    to->len = len;
+}
 
 /* Most rooms are enough; one in five is not. */
 size_t some_room(size_t need)

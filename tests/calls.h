@@ -11,6 +11,13 @@
 void pack_document(const struct document *d, struct packet *to);
 void pack_pattern(const struct pattern *p, struct packet *to);
 
+/* Bytes as a packet, and a packet with a name. */
+void pack_bytes(struct packet *to, const uint8_t *bytes, size_t len);
+#define PACKET(name, ...) \
+    static struct packet name; \
+    static const uint8_t name##_bytes[] = {__VA_ARGS__}; \
+    pack_bytes(&name, name##_bytes, sizeof name##_bytes)
+
 /* A length of room where `need` is enough: enough, just enough, one too short, or much too short. */
 size_t some_room(size_t need);
 
@@ -32,5 +39,9 @@ int64_t check_list_answers(const uint16_t *parents, size_t parents_len, const ui
                            size_t work);
 int64_t check_list_started(const uint16_t *parents, size_t parents_len, const uint16_t *labels, size_t labels_len, const struct packet *pattern,
                            const uint16_t *starts, size_t count, size_t list, size_t work);
+
+/* seven.c: the worked example by the numbers of its cases, and what a candidate's axis is. */
+void flight_line_seven(void);
+void candidate_axis(void);
 
 #endif

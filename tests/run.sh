@@ -82,8 +82,8 @@ object() {
 
 compile() {
   local own="$out/own" for_archive="$out/archive"
-  object "$cross" "$for_archive" evaluator generate lending calls compare answer_packets
-  $cross $link -o "$out/compare" "$for_archive"/{compare,calls,lending,generate,evaluator}.o "$archive"
+  object "$cross" "$for_archive" evaluator generate lending calls seven compare answer_packets
+  $cross $link -o "$out/compare" "$for_archive"/{compare,seven,calls,lending,generate,evaluator}.o "$archive"
   $cross $link -o "$out/answer_packets" "$for_archive/answer_packets.o" "$archive"
   $cross $flags $link -o "$out/stack" tests/stack.c "$for_archive"/{generate,evaluator}.o "$archive"
   $cross $flags $link -o "$out/frames_of_strips" samples/frames_of_strips.c "$archive"
@@ -95,7 +95,7 @@ compile() {
 
 compare_sanitized() {
   gcc $flags -O1 -g -fsanitize=address,undefined -fno-sanitize-recover=all -o "$out/compare_sanitized" \
-    tests/{compare,calls,lending,generate,evaluator}.c "$archive"
+    tests/{compare,seven,calls,lending,generate,evaluator}.c "$archive"
   "$out/compare_sanitized" "$seed" 150
 }
 
@@ -116,7 +116,7 @@ broken() {
   last=$(sed -n 's/^ \* *\([0-9][0-9]*\)  [a-z].*/\1/p; s/^\/\* *\([0-9][0-9]*\)  [a-z].*/\1/p' tests/evaluator.c | tail -n 1)
   for ((k = 1; k <= last; k++)); do
     $cross $flags -O0 -DBREAK_EVALUATOR=$k -c tests/evaluator.c -o "$out/archive/broken.o"
-    $cross $link -o "$out/broken" "$out/archive"/{compare,calls,lending,generate,broken}.o "$archive"
+    $cross $link -o "$out/broken" "$out/archive"/{compare,seven,calls,lending,generate,broken}.o "$archive"
     if $runner "$out/broken" > "$out/broken.out" 2>&1; then echo "compare passed with rule $k broken"; return 1; fi
     grep -q 'compare: MISMATCH' "$out/broken.out" || { cat "$out/broken.out"; echo "compare failed with rule $k broken, but not by a mismatch"; return 1; }
     found=$((found + 1))
