@@ -30,7 +30,10 @@ byPart o e u x y z = cond (ltb o u) (cond (ltb (o + e) u) z y) x
 abbrev pub added : Shape → ℕ
 added E = E .tree .size - 1
 
--- the joined pattern: children of E's step 0 hang on U's output step
+-- the joined pattern: children of E's step 0 hang on U's output step. For the view /line/strip[control] with output step 1 and the compensation strip/frame:
+--   view            0 line, 1 strip on 0, 2 control on 1
+--   compensation    0 strip, 1 frame on 0
+--   join            0 line, 1 strip on 0 (the view up to its output), 2 frame on 1 (the compensation past its step 0), 3 control on 1 (the rest of the view)
 unfoldable pub joinShape : Shape → Shape → Shape
 joinShape U E = record {
   tree = record {
