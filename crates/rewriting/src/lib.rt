@@ -17,6 +17,9 @@ use tables::Pattern;
 use tables::Refusal;
 use tables::StepNo;
 
+// The steps that a query or a view for rewriting may have.
+const MOST: usize = 32;
+
 // The candidate is handed over; or there is no rewriting; or the pair is refused.
 pub enum Rewriting {
     Handed,
@@ -193,10 +196,7 @@ pub fn rewrite(q: Pattern, v: Pattern) -> RewritingAnswer
     if let Checked::Refused(r) = tables::check_pattern(v) {
         return beside(Rewriting::Refused(r));
     }
-    if 32 < q.count {
-        return beside(Rewriting::Refused(Refusal::TooLarge));
-    }
-    if 32 < v.count {
+    if MOST < q.count || MOST < v.count {
         return beside(Rewriting::Refused(Refusal::TooLarge));
     }
     let found = candidate(q, v);

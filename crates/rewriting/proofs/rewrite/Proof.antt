@@ -2,6 +2,7 @@
 use mathlib.Core.Path.{_≡_, refl, sym, subst, subst₂}
 use mathlib.Core.Logic.{inl, inr, ⊎-elim}
 use native.Mathlib.Omega.{arith}
+use borrow.Author.Tests.{ltb-true, ltb-false}
 use Rattle.tables.specs.Checks.{ChecksPattern}
 use Rattle.tables.specs.Pattern.{shapeOf, zeroPattern, ValidPattern}
 use Rattle.tables.specs.Refusal.{Passes}
@@ -44,7 +45,8 @@ entry x = both x .before .before .before .before .before .before
 
 -- there every check holds
 passes : (x : tie.Else2) → Passes (rewritingChecks (entry x .args .q) (entry x .args .v))
-passes x = (query (both x .before .before .before), (view (both x), ((omega arith, omega arith), tt)))
+passes x =
+    (query (both x .before .before .before), (view (both x), ((omega arith, ltb-false 32 (entry x .args .v .count) (x .if2 .left)), tt)))
 
 -- the pattern found is the candidate
 there : (x : tie.Else3) → Candidate (entry (x .before .before .before) .args .q) (entry (x .before .before .before) .args .v)
@@ -78,49 +80,53 @@ returns-3 : tie.Need-returns-3
 returns-3 c =
     let x = c .before .before .before in
     let a = x .before .before .before .before .before .before .args in
-    said (a .q) (a .v) (rewriting.Refused TooLarge) (c .beside3 .result) (c .beside3 .ensures)
-    (inr (query (x .before .before .before), inr (view x, inl (λ h. omega (arith, h .0), refl))), refl)
-
-returns-4 : tie.Need-returns-4
-returns-4 c =
-    let x = c .before .before .before .before .before in
-    let a = x .before .before .before .before .before .before .args in
-    said (a .q) (a .v) (rewriting.Refused TooLarge) (c .beside4 .result) (c .beside4 .ensures)
-    (inr (query (x .before .before .before), inr (view x, inl (λ h. omega (arith, h .1), refl))), refl)
+    said (a .q) (a .v) (rewriting.Refused TooLarge) (c .beside3 .result) (c .beside3 .ensures) (
+      inr (
+        query (x .before .before .before),
+        inr (
+          view x,
+          inl (
+            λ h. ⊎-elim (λ n. omega (arith, n .taken, h .0)) (λ n. omega (arith, ltb-true 32 (a .v .count) (n .2 .taken), h .1)) (c .before .if1 .came),
+            refl,
+          ),
+        ),
+      ),
+      refl,
+    )
 
 candidate-requires : tie.Need-candidate-requires
 candidate-requires c κs = let p = passes c in (p .0, p .1 .0)
 
-returns-5 : tie.Need-returns-5
-returns-5 c =
+returns-4 : tie.Need-returns-4
+returns-4 c =
     let f = c .before .before .before .candidate in
     let x = c .before .before .before .before in
-    said (entry x .args .q) (entry x .args .v) rewriting.Nothing (c .beside5 .result) (c .beside5 .ensures)
+    said (entry x .args .q) (entry x .args .v) rewriting.Nothing (c .beside4 .result) (c .beside4 .ensures)
     (passes x, λ E k s. failed (f .result .there) (c .before .if3 .taken) (f .ensures .1 E k s), refl)
 
 serves-requires : tie.Need-serves-requires
 serves-requires c κs = (passes (c .before .before .before .before) .0, joinable (c .before))
 
-returns-6 : tie.Need-returns-6
-returns-6 c =
+returns-5 : tie.Need-returns-5
+returns-5 c =
     let w = c .before .before .serves in
     let y = c .before .before .before .before in
     let x = y .before .before .before in
     let a = entry x .args in
-    said (a .q) (a .v) rewriting.Nothing (c .beside6 .result) (c .beside6 .ensures) (
+    said (a .q) (a .v) rewriting.Nothing (c .beside5 .result) (c .beside5 .ensures) (
       passes x,
       λ E k s. failed (w .result) (c .before .if4 .taken) (w .ensures .1
           (subst (λ p. Equal (shapeOf (joinOf (a .v) p)) (shapeOf (a .q))) (candidate-unique k (there y)) (s .equal))),
       refl,
     )
 
-returns-7 : tie.Need-returns-7
-returns-7 c =
+returns-6 : tie.Need-returns-6
+returns-6 c =
     let w = c .before .serves in
     let y = c .before .before .before in
     (passes (y .before .before .before), there y, record { joinable = joinable y; equal = w .ensures .0 (passed (w .result) (c .if4 .left)) })
 
 pub rewrite-spec : {M : Type 1} → statement M
 rewrite-spec = tie.close (tie.spec (λ c κs. search needs) (λ c. search needs) (λ c κs. search needs) returns (λ c. search needs)
-    (λ c κs. search needs) (λ c. search needs) (λ c κs. search needs) returns-2 (λ c. search needs) (λ c κs. search needs) returns-3
-    (λ c κs. search needs) returns-4 candidate-requires (λ c κs. search needs) returns-5 serves-requires (λ c κs. search needs) returns-6 returns-7)
+    (λ c κs. search needs) (λ c. search needs) (λ c κs. search needs) returns-2 (λ c. search needs) (λ c κs. search needs) returns-3 candidate-requires
+    (λ c κs. search needs) returns-4 serves-requires (λ c κs. search needs) returns-5 returns-6)
