@@ -27,77 +27,7 @@ abbrev put-number-below : ℕ → In 1 put-number-kinds.ps
 put-number-below t =
     and 1 put-number-kinds.ps (falls 1 put-number-kinds.ps _<_ μ-put-number t) put-number.Pre
 
-put-number-cast-put-byte : (t : ℕ) → put-number-lts.Need-cast-put-byte (
-  put-byte-reads.Asked,
-  put-byte-reads.Learnt,
-  put-number-below t,
-  put-number.Post,
-) (put-number-at t) put-number.Post
-put-number-cast-put-byte t c = omega arith
-
-put-number-add-put-byte : (t : ℕ) → put-number-lts.Need-add-put-byte (
-  put-byte-reads.Asked,
-  put-byte-reads.Learnt,
-  put-number-below t,
-  put-number.Post,
-) (put-number-at t) put-number.Post
-put-number-add-put-byte t c = omega arith
-
-put-number-put-byte-requires : (t : ℕ) → put-number-lts.Need-put-byte-requires (
-  put-byte-reads.Asked,
-  put-byte-reads.Learnt,
-  put-number-below t,
-  put-number.Post,
-) (put-number-at t) put-number.Post
-put-number-put-byte-requires t c κs =
-    let x = c .before .before .before in
-    omega (arith, x .pre .1, ap length (decimal-small (x .args .n) (omega arith)))
-
-put-number-put-number-requires : (t : ℕ) → put-number-lts.Need-put-number-requires (
-  put-byte-reads.Asked,
-  put-byte-reads.Learnt,
-  put-number-below t,
-  put-number.Post,
-) (put-number-at t) put-number.Post
-put-number-put-number-requires t c κs =
-    let x = c .before .before .before in
-    (omega (arith, x .pre .0), omega (arith, x .pre .1, decimal-large-length (x .args .n) (omega arith)))
-
-put-number-cast-put-byte-2 : (t : ℕ) → put-number-lts.Need-cast-put-byte-2 (
-  put-byte-reads.Asked,
-  put-byte-reads.Learnt,
-  put-number-below t,
-  put-number.Post,
-) (put-number-at t) put-number.Post
-put-number-cast-put-byte-2 t c = omega arith
-
-put-number-add-put-byte-2 : (t : ℕ) → put-number-lts.Need-add-put-byte-2 (
-  put-byte-reads.Asked,
-  put-byte-reads.Learnt,
-  put-number-below t,
-  put-number.Post,
-) (put-number-at t) put-number.Post
-put-number-add-put-byte-2 t c = omega arith
-
-put-number-put-byte-requires-2 : (t : ℕ) → put-number-lts.Need-put-byte-requires-2 (
-  put-byte-reads.Asked,
-  put-byte-reads.Learnt,
-  put-number-below t,
-  put-number.Post,
-) (put-number-at t) put-number.Post
-put-number-put-byte-requires-2 t c κs =
-    let y = c .before .before .before in
-    let x = y .before .before .before .before in
-    omega (arith, x .pre .1, y .put-number .ensures .end, y .put-number .kept .0, decimal-large-length (x .args .n) (omega arith))
-
-put-number-same-length : (t : ℕ) → put-number-lts.Need-same-length (
-  put-byte-reads.Asked,
-  put-byte-reads.Learnt,
-  put-number-below t,
-  put-number.Post,
-) (put-number-at t) put-number.Post
-put-number-same-length t c = search needs
-
+-- one digit
 put-number-returns : (t : ℕ) → put-number-lts.Need-returns (
   put-byte-reads.Asked,
   put-byte-reads.Learnt,
@@ -108,14 +38,7 @@ put-number-returns t c =
     let x = c .before .before .before .before .before .before in
     rw (decimal-small (x .args .n) (omega arith)) (c .before .before .put-byte .ensures)
 
-put-number-same-length-2 : (t : ℕ) → put-number-lts.Need-same-length-2 (
-  put-byte-reads.Asked,
-  put-byte-reads.Learnt,
-  put-number-below t,
-  put-number.Post,
-) (put-number-at t) put-number.Post
-put-number-same-length-2 t c = search needs
-
+-- the digits before the last, then the last
 put-number-returns-2 : (t : ℕ) → put-number-lts.Need-returns-2 (
   put-byte-reads.Asked,
   put-byte-reads.Learnt,
@@ -134,16 +57,12 @@ pub +put-number-spec : {M : Type 1} → statement M
   put-number-below t,
   put-number.Post,
 )
-    (put-number-at t)
-    put-number.Post
-    (put-number-cast-put-byte t)
-    (put-number-add-put-byte t)
-    (put-number-put-byte-requires t)
-    (put-number-put-number-requires t)
-    (put-number-cast-put-byte-2 t)
-    (put-number-add-put-byte-2 t)
-    (put-number-put-byte-requires-2 t)
-    (put-number-same-length t)
-    (put-number-returns t)
-    (put-number-same-length-2 t)
-    (put-number-returns-2 t)
+    (put-number-at t) put-number.Post (λ c. omega arith) (λ c. omega arith)
+    (λ c κs. let x = c .before .before .before in omega (arith, x .pre .1, ap length (decimal-small (x .args .n) (omega arith))))
+    (λ c κs. let x = c .before .before .before in
+    (omega (arith, x .pre .0), omega (arith, x .pre .1, decimal-large-length (x .args .n) (omega arith))))
+    (λ c. omega arith) (λ c. omega arith)
+    (λ c κs. let y = c .before .before .before in
+    let x = y .before .before .before .before in
+    omega (arith, x .pre .1, y .put-number .ensures .end, y .put-number .kept .0, decimal-large-length (x .args .n) (omega arith)))
+    (λ c. search needs) (put-number-returns t) (λ c. search needs) (put-number-returns-2 t)
