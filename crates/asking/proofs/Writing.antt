@@ -1,6 +1,6 @@
 -- Laws of the writers: one byte, one text after another, and how long the lines are. Assumes nothing.
 use Prim.Native.Nat.{ℕ, zero, suc, _+_, _*_, _≤_, _<_}
-use mathlib.Core.Path.{_≡_, refl, sym, ap, ap₂, _∙_}
+use mathlib.Core.Path.{_≡_, refl, sym, ap, ap₂, _∙_, subst}
 use mathlib.Core.List.{List, [], _∷_, _++_, append-assoc, append-nil}
 use native.Mathlib.Omega.{arith}
 use native.Mathlib.Nat.{add-zero}
@@ -71,8 +71,10 @@ copied-next b at w i out l m c =
       wrote = rw (e, f) at z;
     }
 
-pub copied-all : (b : List ℕ) (at : ℕ) (w : List ℕ) (i : ℕ) (out : List ℕ) → length w ≤ i → Copied b at w i out → Wrote b at w (at + i) out
-copied-all b at w i out l c = rw (take-all i w l) at (c .wrote)
+pub copied-all : (b : List ℕ) (at : ℕ) (w : List ℕ) (i : ℕ) (out : List ℕ) → length w ≤ i → Copied b at w i out → Wrote b at w (at + length w) out
+copied-all b at w i out l c =
+    let e : i ≡ length w = omega (arith, c .low) in
+    rw (take-all i w l) at (subst (λ (k : ℕ). Wrote b at (take i w) (at + k) out) e (c .wrote))
 
 -- the first i numbers of a list have been put, up to byte `next`
 pub record Spaced (before : List ℕ) (at : ℕ) (list : List ℕ) (i next : ℕ) (out : List ℕ) : Type 0 where

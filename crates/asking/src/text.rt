@@ -19,12 +19,10 @@ pub(crate) fn put_word(out: &mut [u8], at: usize, word: &[u8]) -> usize
     requires { ⌜ at + length (now word) ≤ length (now out) ⌝ }
     ensures { λ r. ⌜ Wrote (now (out .entry)) at (now (word .entry)) r (now (out .exit)) ⌝ }
 {
-    let mut i = 0;
-    while i < word.len() {
+    for i in 0..word.len() {
         out[at + i] = word[i];
-        i += 1;
     }
-    at + i
+    at + word.len()
 }
 
 // A number in decimal: the digits before the last, then the last.
@@ -55,10 +53,8 @@ fn put_list(out: &mut [u8], at: usize, list: &[u16]) -> usize
     ensures { λ r. ⌜ Wrote (now (out .entry)) at (spaced (now (list .entry))) r (now (out .exit)) ⌝ }
 {
     let mut next = at;
-    let mut i = 0;
-    while i < list.len() {
+    for i in 0..list.len() {
         next = put_item(out, next, list[i] as usize);
-        i += 1;
     }
     next
 }

@@ -9,10 +9,10 @@ use Rattle.asking.proofs.text.put_list.Statement.{statement}
 use Rattle.asking.proofs.text.put_list.Tie as tie
 
 abbrev Inv-loop : tie.InvT-loop
-Inv-loop out₀ at list next₀ i₀ out next i = Spaced out₀ at list i next out
+Inv-loop out₀ at list next₀ i₀ i-end out next i = Spaced out₀ at list i next out
 
 abbrev μ-loop : tie.MeasureT-loop
-μ-loop out₀ at list next₀ i₀ out next i = length list - i
+μ-loop out₀ at list next₀ i₀ i-end out next i = length list - i
 
 loop-holds : tie.Need-loop-holds Inv-loop μ-loop
 loop-holds c = spaced-none _ _ _

@@ -8,10 +8,10 @@ use Rattle.asking.proofs.text.put_word.Statement.{statement}
 use Rattle.asking.proofs.text.put_word.Tie as tie
 
 abbrev Inv-loop : tie.InvT-loop
-Inv-loop out₀ at word i₀ out i = Copied out₀ at word i out
+Inv-loop out₀ at word i₀ i-end out i = Copied out₀ at word i out
 
 abbrev μ-loop : tie.MeasureT-loop
-μ-loop out₀ at word i₀ out i = length word - i
+μ-loop out₀ at word i₀ i-end out i = length word - i
 
 loop-holds : tie.Need-loop-holds Inv-loop μ-loop
 loop-holds c = copied-none _ _ _
