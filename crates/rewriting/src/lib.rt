@@ -54,10 +54,8 @@ fn main_step(p: Pattern, up: usize) -> usize
     ensures { λ r. ⌜ r ≡ getD (mainPath (shapeOf p)) (length (mainPath (shapeOf p)) - 1 - up) 0 ⌝ }
 {
     let mut s = p.output.0 as usize;
-    let mut k = 0;
-    while k < up {
+    for _k in 0..up {
         s = p.parent[s] as usize;
-        k += 1;
     }
     s
 }
@@ -97,12 +95,10 @@ fn cut(q: Pattern, c: usize) -> Pattern
     p.parent[0] = 255;
     p.axis[0] = 0;
     p.label[0] = q.label[c];
-    let mut t = 1;
-    while t < n {
+    for t in 1..n {
         p.parent[t] = q.parent[c + t] - less;
         p.axis[t] = q.axis[c + t];
         p.label[t] = q.label[c + t];
-        t += 1;
     }
     p
 }
