@@ -241,7 +241,8 @@ static int node_of_depth(const struct document *d, int depth, int inner) {
     return -1;
 }
 
-/* A pattern of so many steps taken from the document itself, so that it has answers. 0 where the document is not deep enough, or the nodes drawn have too little below. */
+/* A pattern of so many steps taken from the document itself, so that it has answers. 0 where the document is not deep enough, or the nodes drawn have too
+ * little below. */
 static int draw(const struct document *d, enum kind kind, int steps, struct pattern *p) {
     int path[N], length = 0;
     p->count = 0;
@@ -529,7 +530,8 @@ static void answers_row(struct document *d, const struct pattern *p, enum kind k
         strcat(missed, " lists");
     if (by_packets > 2)
         strcat(missed, " packets");
-    printf("| %s | %s | %d | %lld | %.1f | %.1f | %.2f | %.1f | %.1f | %.2f |", d->name, kind_names[kind], p->count, (long long)count, t[0], t[1], by_lists, t[2], t[3],
+    printf("| %s | %s | %d | %lld | %.1f | %.1f | %.2f | %.1f | %.1f | %.2f |", d->name, kind_names[kind], p->count, (long long)count, t[0], t[1],
+           by_lists, t[2], t[3],
            by_packets);
     if (tree > 0) {
         double factor = tree / t[0], factor_bytes = bytes / t[2];
@@ -597,8 +599,8 @@ static void pair_row(const char *what, const struct pattern *a, const struct pat
 
 enum form { LINE, STAR, CATERPILLAR, BUSH };
 
-/* A pattern of a form: a caterpillar is a chain with a leaf at each of its steps, a bush has branches of three steps. Its axes are all child or, past step 0, all
- * descendant; its labels all 1, or 1, 2, 3 and so on. The output is the end of the chain, or step 0. */
+/* A pattern of a form: a caterpillar is a chain with a leaf at each of its steps, a bush has branches of three steps. Its axes are all child or, past step
+ * 0, all descendant; its labels all 1, or 1, 2, 3 and so on. The output is the end of the chain, or step 0. */
 static struct pattern of_form(enum form form, int steps, int axis, int distinct) {
     struct pattern p;
     p.count = 0;
@@ -743,9 +745,11 @@ int main(int argc, char **argv) {
     make(&documents[4], "one label", RANDOM, 1, 0);
 
     printf("## Answers, documents of 2,048 nodes\n\n");
-    printf("Times in microseconds. The ratios are to the hand-written C beside them, the factors say how many times libxml2's time is that of Nishkavel from lists (parsed tree) "
+    printf("Times in microseconds. The ratios are to the hand-written C beside them, the factors say how many times libxml2's time is "
+           "that of Nishkavel from lists (parsed tree) "
            "and from packets (bytes).\n\n");
-    printf("| document | pattern | steps | answers | lists | by hand | ratio | packets | by hand | ratio | libxml2, parsed tree | factor | libxml2, bytes | factor | missed |\n");
+    printf("| document | pattern | steps | answers | lists | by hand | ratio | packets | by hand | ratio "
+           "| libxml2, parsed tree | factor | libxml2, bytes | factor | missed |\n");
     printf("|---|---|--:|--:|--:|--:|--:|--:|--:|--:|--:|--:|--:|--:|---|\n");
     for (int d = 0; d < 5; d++)
         for (enum kind kind = CHILD; kind <= CONDITIONS; kind++)
@@ -767,7 +771,8 @@ int main(int argc, char **argv) {
                 answers_row(&documents[d], &p, kind);
             }
 
-    printf("\n## Containment\n\nTimes in microseconds.\n\n| patterns | steps | answer | Nishkavel | by hand | ratio | missed |\n|---|---|---|--:|--:|--:|---|\n");
+    printf("\n## Containment\n\nTimes in microseconds.\n\n"
+           "| patterns | steps | answer | Nishkavel | by hand | ratio | missed |\n|---|---|---|--:|--:|--:|---|\n");
     containment_rows(64);
     containment_rows(32);
 
@@ -779,7 +784,8 @@ int main(int argc, char **argv) {
     print_summary("The C entry from packets", &packets, 0);
     print_summary("Containment", &containment, 0);
     print_summary("Rewriting", &rewriting, 0);
-    printf("- libxml2's compiled expression on a parsed tree: least factor with descendants or conditions %.2f (goal over 1%s): %s. Rows where libxml2 is faster: %s\n",
+    printf("- libxml2's compiled expression on a parsed tree: least factor with descendants or conditions %.2f (goal over 1%s): %s. "
+           "Rows where libxml2 is faster: %s\n",
            least_tree, least_tree > 1 ? "" : ", missed", least_tree_where, slower[0] ? slower : "none");
     printf("- libxml2 from bytes: least factor %.1f (goal 8%s): %s\n", least_bytes, least_bytes >= 8 ? "" : ", missed", least_bytes_where);
     printf("- Rows that miss a goal, and means that do: %d\n", misses);

@@ -1,13 +1,13 @@
 /* hand.c: the yardstick of the benchmarks, written for speed in plain C.
  *
- * A set of steps is one 64-bit mask. The steps of a node's label are looked up as one mask, and the conditions of all of them are tested together: `got` has bit s
- * when something below the node serves step s, so the steps that lack something are the parents of the steps outside `got`. A parent is reached from its step
- * by a shift. Most steps hang on the step just before, one shift for all of these; the other edges are grouped into a few shifts (edges of one distance) and a few
- * tests (edges of one parent), and are looked at only where a step that has such an edge is in question.
+ * A set of steps is one 64-bit mask. The steps of a node's label are looked up as one mask, and the conditions of all of them are tested together: `got` has
+ * bit s when something below the node serves step s, so the steps that lack something are the parents of the steps outside `got`. A parent is reached from
+ * its step by a shift. Most steps hang on the step just before, one shift for all of these; the other edges are grouped into a few shifts (edges of one
+ * distance) and a few tests (edges of one parent), and are looked at only where a step that has such an edge is in question.
  *
  * One accumulator for each node is enough on the way up: a node hands its parent the steps that fit at it and, of those served below it, the descendant steps.
- * The same holds on the way down. Where most nodes hang on the node just before, the accumulator of that node is kept in a register, since the way through memory
- * would be waited for at each node. */
+ * The same holds on the way down. Where most nodes hang on the node just before, the accumulator of that node is kept in a register, since the way through
+ * memory would be waited for at each node. */
 #include "hand.h"
 
 #include <string.h>
@@ -244,7 +244,8 @@ struct scratch {
 };
 
 /* Both passes. Steps that fit at node i go to fit[stride * i]; with stride 2 the steps of whole placements go beside them. The count of the answers. */
-static inline __attribute__((always_inline)) int passes(const uint16_t *parents, const uint16_t *labels, int n, const struct edges *e, const struct labels *t, int out,
+static inline __attribute__((always_inline)) int passes(const uint16_t *parents, const uint16_t *labels, int n, const struct edges *e, const struct labels *t,
+                                                                int out,
                                                         mask *fit, struct scratch *r, int stride, int deep, int branching) {
     mask descendant = e->descendant, first = e->first, carry = 0;
     mask *open = r->open;

@@ -6,8 +6,8 @@
 #
 # SAMPLES=N sets the samples of each time (101). What is missing (gcc, pkg-config, libxml2-dev) is installed from Debian.
 #
-# Both sides run on the processor at hand. On x86-64 the archive is that of `rt staticlib station`, and hand.c is compiled for the same plain x86-64. On Arm, where
-# that archive does not link, the kit's clang compiles the same LLVM module once more for Arm.
+# Both sides run on the processor at hand. On x86-64 the archive is that of `rt staticlib station`, and hand.c is compiled for the same plain x86-64. On Arm,
+# where that archive does not link, the kit's clang compiles the same LLVM module once more for Arm.
 set -euo pipefail
 cd "$(dirname "$0")/.."
 out=${1:-}
@@ -77,8 +77,9 @@ report() {
     processor=$(LC_ALL=C lscpu | sed -n 's/^Model name: *//p' | head -n 1)
     echo '# Benchmarks'
     echo
-    echo "Command: \`bash bench/run.sh docs/BENCHMARKS.md\`. Processor: ${processor:-unknown} ($machine). Hand-written C: $(gcc --version | head -n 1), \`-O3\` without \`-march\`, so that" \
-        "both sides have the plain instruction set of $machine. libxml2 $(pkg-config --modversion libxml-2.0), each expression in the faster of its two spellings (\`//frame\` and \`/descendant::frame\`)." \
+    echo "Command: \`bash bench/run.sh docs/BENCHMARKS.md\`. Processor: ${processor:-unknown} ($machine)." \
+        "Hand-written C: $(gcc --version | head -n 1), \`-O3\` without \`-march\`, so that both sides have the plain instruction set of $machine." \
+        "libxml2 $(pkg-config --modversion libxml-2.0), each expression in the faster of its two spellings (\`//frame\` and \`/descendant::frame\`)." \
         "Each time is the median of $samples samples, fewer where libxml2 takes long; the sides of a row take turns."
     echo
     "$build/bench" "$samples"

@@ -1,9 +1,9 @@
 /* nishkavel.h: the frame catalogue for C.
  *
- * Documents and patterns are handed over as packets, slices of bytes. Every function answers with a number: 0 or more is an answer, a negative number is minus a
- * refusal of enum nishkavel_refusal. A refusal changes no byte that was lent. No function keeps state, allocates, or reads or writes outside the slices that
- * it is handed, so any of them may be called from many threads at once, on rooms that do not overlap. A pointer may be NULL where its length is 0. A room must not overlap what
- * is read in the same call. A call uses up to 96 KiB of stack.
+ * Documents and patterns are handed over as packets, slices of bytes. Every function answers with a number: 0 or more is an answer, a negative number is
+ * minus a refusal of enum nishkavel_refusal. A refusal changes no byte that was lent. No function keeps state, allocates, or reads or writes outside the
+ * slices that it is handed, so any of them may be called from many threads at once, on rooms that do not overlap. A pointer may be NULL where its length is
+ * 0. A room must not overlap what is read in the same call. A call uses up to 96 KiB of stack.
  *
  * A document packet: 1, the length of what follows in two bytes, then for each node its parent and its label in two bytes each. Node 0 has parent 65535; every
  * later node hangs on the node before it or on an ancestor of that one. 1 to 2,048 nodes.
@@ -64,13 +64,13 @@ int64_t nishkavel_started(const uint8_t *document, size_t document_len, const ui
                           uint8_t *room, size_t room_len);
 
 /* Is each answer of a, on every document, an answer of b? 1: it is, and the first 64 bytes of the room are the smallest mapping of b's steps to a's, zero
- * past b's steps. 0: it is not, and the room begins with a document packet on which the two differ, then the node, two bytes, that a answers there and b does not.
- * The bytes past that stay.
+ * past b's steps. 0: it is not, and the room begins with a document packet on which the two differ, then the node, two bytes, that a answers there and b
+ * does not. The bytes past that stay.
  * Refused by the packet of a, the packet of b, no label for the witness (9), or a room of fewer than 517 bytes (5), whichever way the answer would fall. */
 int64_t nishkavel_contained(const uint8_t *a, size_t a_len, const uint8_t *b, size_t b_len, uint8_t *room, size_t room_len);
 
-/* The join of a view and a compensation, whose answers are those of the compensation started at the answers of the view. The length of its packet, which the room
- * begins with; the bytes past it stay.
+/* The join of a view and a compensation, whose answers are those of the compensation started at the answers of the view. The length of its packet, which the
+ * room begins with; the bytes past it stay.
  * Refused by the view's packet, the compensation's packet, 6, 7, 8, or a room shorter than the packet (5). */
 int64_t nishkavel_join(const uint8_t *view, size_t view_len, const uint8_t *compensation, size_t compensation_len, uint8_t *room, size_t room_len);
 
@@ -79,18 +79,21 @@ int64_t nishkavel_join(const uint8_t *view, size_t view_len, const uint8_t *comp
  * Refused by the query's packet, the view's packet, 8, or, where there is a compensation, a room shorter than its packet (5). */
 int64_t nishkavel_rewrite(const uint8_t *query, size_t query_len, const uint8_t *view, size_t view_len, uint8_t *room, size_t room_len);
 
-/* Reads a document packet into two lists, for the calls below. The node count n; the first n entries of each list are the parents and the labels, the others stay.
- * Refused by the packet (2, 1, 2, 4), or a list of fewer than n entries (5). */
+/* Reads a document packet into two lists, for the calls below. The node count n; the first n entries of each list are the parents and the labels, the others
+ * stay. Refused by the packet (2, 1, 2, 4), or a list of fewer than n entries (5). */
 int64_t nishkavel_read_document(const uint8_t *document, size_t document_len, uint16_t *parents, size_t parents_len, uint16_t *labels, size_t labels_len);
 
-/* The answers of a pattern in a document that stands in two lists. The count c; the first c entries of the list are the answers, ascending. Bit s of entry 2i of
- * the working list says that step s with all below it can stand at node i, bit s of entry 2i + 1 that it stands there in a whole placement. The entries of both lists past these stay.
- * Refused by the pattern packet (2, 1, 2, 3), a document that breaks its rules (4), or a list of fewer than n entries or a working list of fewer than 2n (5). */
-int64_t nishkavel_list_answers(const uint16_t *parents, size_t parents_len, const uint16_t *labels, size_t labels_len, const uint8_t *pattern, size_t pattern_len,
+/* The answers of a pattern in a document that stands in two lists. The count c; the first c entries of the list are the answers, ascending. Bit s of entry
+ * 2i of the working list says that step s with all below it can stand at node i, bit s of entry 2i + 1 that it stands there in a whole placement. The
+ * entries of both lists past these stay. Refused by the pattern packet (2, 1, 2, 3), a document that breaks its rules (4), or a list of fewer than n entries
+ * or a working list of fewer than 2n (5). */
+int64_t nishkavel_list_answers(const uint16_t *parents, size_t parents_len, const uint16_t *labels, size_t labels_len,
+                               const uint8_t *pattern, size_t pattern_len,
                                uint16_t *list, size_t list_len, uint64_t *work, size_t work_len);
 
 /* The same with step 0 at any of the start nodes. Refused by the pattern packet, 4, 6, 5. */
-int64_t nishkavel_list_started(const uint16_t *parents, size_t parents_len, const uint16_t *labels, size_t labels_len, const uint8_t *pattern, size_t pattern_len,
+int64_t nishkavel_list_started(const uint16_t *parents, size_t parents_len, const uint16_t *labels, size_t labels_len,
+                               const uint8_t *pattern, size_t pattern_len,
                                const uint16_t *starts, size_t starts_len, uint16_t *list, size_t list_len, uint64_t *work, size_t work_len);
 
 /* Reads a pattern packet and writes it back, the same bytes: its length, with the packet at the front of the room and the bytes past it as they were.

@@ -1,5 +1,6 @@
-/* answer_packets.c: reads document and pattern packets by turns from standard input and writes for each pair what nishkavel_answers gives: the count in two bytes
- * and the answers. tests/xpath.c compares that with libxml2; the two are programs of their own since the archive is for x86-64 and libxml2 for the machine at hand.
+/* answer_packets.c: reads document and pattern packets by turns from standard input and writes for each pair what nishkavel_answers gives: the count in two
+ * bytes and the answers. tests/xpath.c compares that with libxml2; the two are programs of their own since the archive is for x86-64 and libxml2 for the
+ * machine at hand.
  */
 #include "../include/nishkavel.h"
 

@@ -156,7 +156,8 @@ static void tie_rewriting(const struct packet *document, const struct packet *qu
     take_pattern(query->bytes, query->len, &q);
     take_pattern(view->bytes, view->len, &v);
     holds(take_pattern(compensation->bytes, compensation->len, &e) == 0, "a compensation is a pattern", query, view, compensation);
-    holds(join_patterns(&v, &e, &j) == 0 && map_by_recursion(&q, &j, map) && map_by_recursion(&j, &q, map), "the join with the view is equal to the query", query,
+    holds(join_patterns(&v, &e, &j) == 0 && map_by_recursion(&q, &j, map) && map_by_recursion(&j, &q, map),
+          "the join with the view is equal to the query", query,
           view, compensation);
     int64_t count = nishkavel_answers(document->bytes, document->len, view->bytes, view->len, starts.bytes, sizeof starts.bytes);
     if (count < 0) return;
@@ -210,7 +211,8 @@ static void check_evaluator(void)
         if (chance(r, 40)) alter(r, &c, &b);
     }
     int mapped = map_by_trial(&a, &b, map);
-    holds(mapped == map_by_recursion(&a, &b, other) && (!mapped || memcmp(map, other, b.n * sizeof map[0]) == 0), "trial and recursion map the same", NULL, NULL,
+    holds(mapped == map_by_recursion(&a, &b, other) && (!mapped || memcmp(map, other, b.n * sizeof map[0]) == 0),
+          "trial and recursion map the same", NULL, NULL,
           NULL);
     size_t node = write_witness(&a, fresh_label(&a, &b), &w);
     holds(answers_node(&a, &w, node), "a pattern answers its own witness", NULL, NULL, NULL);
@@ -519,7 +521,8 @@ static void edge_of_pairs(const struct palette *c, const struct packet *document
     pack_pattern(&b, &second);
     int64_t answer = check_contained(&first, &second, 517);
     const uint8_t *room = image(CONTAINED_ROOM);
-    if (steps == 64) holds(answer == 0 && room[1] == 2 && room[2] == 0 && room[6] == 129, "the largest witness has 128 nodes and the fresh label 129", &first, &second, NULL);
+    if (steps == 64)
+        holds(answer == 0 && room[1] == 2 && room[2] == 0 && room[6] == 129, "the largest witness has 128 nodes and the fresh label 129", &first, &second, NULL);
     check_contained(&first, &second, 516);
     check_contained(&second, &first, 518);
 }
@@ -662,7 +665,8 @@ int main(int argc, char **argv)
     refusals();
     holds(3 * handed_over >= rewritings, "a third of the rewritings are handed over", NULL, NULL, NULL);
     holds(4 * contained_pairs >= containments, "a quarter of the containments are contained", NULL, NULL, NULL);
-    printf("compare: %" PRIu64 " comparisons, %" PRIu64 " handed-over of %" PRIu64 " rewritings, seed %" PRIu64 ": all equal\n", comparisons, handed_over, rewritings,
+    printf("compare: %" PRIu64 " comparisons, %" PRIu64 " handed-over of %" PRIu64 " rewritings, seed %" PRIu64 ": all equal\n", comparisons,
+           handed_over, rewritings,
            run_seed);
     return 0;
 }

@@ -1,7 +1,7 @@
 /* evaluator.h: the rules of docs/RULES.md once more, in plain C, for the tests to compare with.
  *
- * It is slow and short on purpose. Small tables are decided by trial: every choice of nodes for steps, or of steps for steps, is written down and tested against
- * the definition. Large tables are decided by a plain recursion. The tests compare the two with each other as well.
+ * It is slow and short on purpose. Small tables are decided by trial: every choice of nodes for steps, or of steps for steps, is written down and tested
+ * against the definition. Large tables are decided by a plain recursion. The tests compare the two with each other as well.
  */
 #ifndef EVALUATOR_H
 #define EVALUATOR_H

@@ -1,8 +1,8 @@
 /* lending.h: what the tests lend to a call, each slice in memory of its own.
  *
- * A slice ends or begins at a page that may be neither read nor written, and has guard bytes on its other side. Beside it stands an image, plain memory with the
- * same contents, which the evaluator reads and writes. After the call the slice has to hold what the image holds, byte for byte: what is to be written, what is
- * to stay, and, for what is only read, everything.
+ * A slice ends or begins at a page that may be neither read nor written, and has guard bytes on its other side. Beside it stands an image, plain memory with
+ * the same contents, which the evaluator reads and writes. After the call the slice has to hold what the image holds, byte for byte: what is to be written,
+ * what is to stay, and, for what is only read, everything.
  */
 #ifndef LENDING_H
 #define LENDING_H

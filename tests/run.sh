@@ -6,8 +6,8 @@
 # NISHKAVEL_SEED sets the seed, NISHKAVEL_ROUNDS the rounds of compare, NISHKAVEL_ASKS the random inputs of ask, NISHKAVEL_XPATHS the comparisons with libxml2.
 #
 # The archive and ask are for x86-64. On x86-64 everything is plain gcc. On Arm what links the archive is cross-compiled, linked statically and run under
-# qemu-x86_64, and so is ask run; what does not link it (the comparison with libxml2 and the program that asks ask) is compiled for the machine itself. libxml2 is
-# therefore always the machine's own, and gets the archive's answers from a file.
+# qemu-x86_64, and so is ask run; what does not link it (the comparison with libxml2 and the program that asks ask) is compiled for the machine itself.
+# libxml2 is therefore always the machine's own, and gets the archive's answers from a file.
 set -uo pipefail
 tests=$(cd "$(dirname "$0")" && pwd)
 root=$(dirname "$tests")
@@ -46,7 +46,8 @@ if [ ${#missing[@]} -gt 0 ]; then
   echo "run: installing ${missing[*]}"
   as_root=''
   [ "$(id -u)" -eq 0 ] || as_root=sudo
-  { $as_root apt-get update && DEBIAN_FRONTEND=noninteractive $as_root apt-get install -y --no-install-recommends "${missing[@]}"; } > "$out/install.log" 2>&1 ||
+  export DEBIAN_FRONTEND=noninteractive
+  { $as_root apt-get update && $as_root apt-get install -y --no-install-recommends "${missing[@]}"; } > "$out/install.log" 2>&1 ||
     { cat "$out/install.log"; echo 'run: could not install what is missing'; exit 1; }
 fi
 

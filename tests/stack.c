@@ -1,5 +1,5 @@
-/* stack.c: how much stack each function of nishkavel.h uses, on the largest tables: each runs on a stack of its own that was painted before. The header says that
- * 96 KiB are enough.
+/* stack.c: how much stack each function of nishkavel.h uses, on the largest tables: each runs on a stack of its own that was painted before. The header says
+ * that 96 KiB are enough.
  */
 #define _DEFAULT_SOURCE
 #include "generate.h"
