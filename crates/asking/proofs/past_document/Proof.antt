@@ -54,9 +54,6 @@ query-right x =
     subst (λ z. ReadAt (input (viewed (first q))) (q .before .next-at .result) z (q .pattern-at2 .result .pattern)) (x .enum-told2 .given .1)
     (q .pattern-at2 .ensures)
 
-pattern-at-requires : tie.Need-pattern-at-requires
-pattern-at-requires c κs = view-begins (c .before .before .before .before)
-
 put-refused-requires : tie.Need-put-refused-requires
 put-refused-requires c κs =
     let m = c .before .number-of in
@@ -73,9 +70,6 @@ returns c =
     let u = subst (λ z. ReadAt (input v) (s .args .a) z (v .pattern-at .result .pattern)) (told .viewed .given .1) (v .pattern-at .ensures) in
     view-refused (input v) (s .args .a) (s .pre .0) (s .pre .1 .0) (told .viewed .given .0 .0) (v .pattern-at .result .pattern) (m .result) (m .ensures) u
     (c .before .before .put-refused .ensures)
-
-next-at-requires : tie.Need-next-at-requires
-next-at-requires c κs = view-begins (start (viewed c))
 
 pattern-at-requires-2 : tie.Need-pattern-at-requires-2
 pattern-at-requires-2 c κs = omega (arith, c .next-at .ensures, query-begins (start (viewed (c .before))))
@@ -149,7 +143,8 @@ returns-4 c =
     (s .pre .1 .1 .0) (omega (arith, c .before .before .before .before .if1 .left)) (c .before .before .put-answers .ensures)
 
 pub past-document-spec : {M : Type 1} → statement M
-past-document-spec = tie.close (tie.spec pattern-at-requires (λ c. search needs) (λ c κs. search needs) (λ c. search needs) put-refused-requires
-    (λ c. search needs) returns (λ c. search needs) next-at-requires pattern-at-requires-2 (λ c. search needs) (λ c κs. search needs)
-    (λ c. search needs) put-refused-requires-2 (λ c. search needs) returns-2 (λ c. search needs) next-at-requires-2 (λ c. search needs)
-    put-refused-requires-3 (λ c. search needs) returns-3 put-answers-requires (λ c. search needs) returns-4)
+past-document-spec = tie.close (tie.spec (λ c κs. view-begins (c .before .before .before .before)) (λ c. search needs) (λ c κs. search needs)
+    (λ c. search needs) put-refused-requires (λ c. search needs) returns (λ c. search needs) (λ c κs. view-begins (start (viewed c)))
+    pattern-at-requires-2 (λ c. search needs) (λ c κs. search needs) (λ c. search needs) put-refused-requires-2 (λ c. search needs) returns-2
+    (λ c. search needs) next-at-requires-2 (λ c. search needs) put-refused-requires-3 (λ c. search needs) returns-3 put-answers-requires
+    (λ c. search needs) returns-4)

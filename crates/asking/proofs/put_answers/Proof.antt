@@ -31,12 +31,6 @@ query-short y =
     found-short (x .args .q) (documentOf (now (x .args .parents)) (now (x .args .labels))) (x .pre .0) queryWord (f .result)
     (f .last .1 .1 .1 .0) (x .pre .1 .1 .0) (f .kept .1 .1 .1 .0) (f .ensures)
 
-slice-aggregate-seen : tie.Need-slice-aggregate-seen
-slice-aggregate-seen c = found-count (c .before .before .before .before .before .find .ensures)
-
-slice-aggregate-told : tie.Need-slice-aggregate-told
-slice-aggregate-told c = found-count (c .before .before .before .find2 .ensures)
-
 put-line-requires : tie.Need-put-line-requires
 put-line-requires c κs =
     let y = c .before .before .before .before .before in
@@ -87,5 +81,6 @@ returns c = answers-put (c .before .before .before .before .before .before .befo
 
 pub put-answers-spec : {M : Type 1} → statement M
 put-answers-spec = tie.close (tie.spec (λ c. search needs) (λ c κs. search needs) (λ c. search needs) (λ c κs. search needs) (λ c. search needs)
-    slice-aggregate-seen (λ c. search needs) slice-aggregate-told (λ c. search needs) put-line-requires (λ c. search needs) put-line-requires-2
+    (λ c. found-count (c .before .before .before .before .before .find .ensures)) (λ c. search needs)
+    (λ c. found-count (c .before .before .before .find2 .ensures)) (λ c. search needs) put-line-requires (λ c. search needs) put-line-requires-2
     put-third-requires (λ c. search needs) returns)

@@ -13,9 +13,6 @@ find-started-requires c κs =
     let x = c .before .before .before .before .before in
     (x .pre .0, (x .pre .1 .0, (x .pre .1 .1 .0, (x .pre .1 .1 .1 .0, omega arith))))
 
-slice-aggregate-put-line-2 : tie.Need-slice-aggregate-put-line-2
-slice-aggregate-put-line-2 c = found-count (c .before .before .before .before .find-started .ensures)
-
 put-line-requires : tie.Need-put-line-requires
 put-line-requires c κs =
     let x = c .before .before .before .before .before .before .before .before .before .before in
@@ -31,5 +28,5 @@ returns : tie.Need-returns
 returns c = search needs
 
 pub put-started-spec : {M : Type 1} → statement M
-put-started-spec = tie.close (tie.spec (λ c. search needs) find-started-requires (λ c. search needs) (λ c. search needs) slice-aggregate-put-line-2
-    put-line-requires (λ c. search needs) returns)
+put-started-spec = tie.close (tie.spec (λ c. search needs) find-started-requires (λ c. search needs) (λ c. search needs)
+    (λ c. found-count (c .before .before .before .before .find-started .ensures)) put-line-requires (λ c. search needs) returns)

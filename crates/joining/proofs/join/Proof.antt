@@ -60,9 +60,6 @@ returns-4 c =
     refuse (a .t1) (a .t2) OtherLabel (c .beside4 .result) (c .beside4 .ensures)
     (inr (view (x .before .before .before), inr (tail x, inr (omega arith, inl (λ e. omega arith, refl)))))
 
-sub-if3 : tie.Need-sub-if3
-sub-if3 c = omega (arith, tail (c .before .before .before .before .before) .some)
-
 add-if3 : tie.Need-add-if3
 add-if3 c = let x = c .before .before .before .before .before in omega (arith, view (x .before .before .before) .few, tail x .few)
 
@@ -86,5 +83,6 @@ returns-6 c =
 pub join-spec : {M : Type 1} → statement M
 join-spec = tie.close (tie.spec (λ c κs. search needs) (λ c. search needs) (λ c κs. search needs) returns (λ c. search needs) (λ c κs. search needs)
     (λ c. search needs) (λ c κs. search needs) returns-2 (λ c. search needs) (λ c. search needs) (λ c κs. search needs) returns-3 (λ c. search needs)
-    (λ c. search needs) element-copy-out-if2 (λ c. search needs) (λ c κs. search needs) returns-4 sub-if3 add-if3 (λ c κs. search needs) returns-5
-    join-table-requires returns-6)
+    (λ c. search needs) element-copy-out-if2 (λ c. search needs) (λ c κs. search needs) returns-4
+    (λ c. omega (arith, tail (c .before .before .before .before .before) .some)) add-if3 (λ c κs. search needs) returns-5 join-table-requires
+    returns-6)

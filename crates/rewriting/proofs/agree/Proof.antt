@@ -56,24 +56,6 @@ up x =
 loop-holds : tie.Need-loop-holds Inv-loop μ-loop
 loop-holds c = (level-start (c .pre .0 .0) (c .pre .0 .1) (c .pre .1 .0) _ (c .pre .1 .1), inl (refl, refl))
 
-mul-if1 : tie.Need-mul-if1 Inv-loop μ-loop
-mul-if1 c = record { fits = omega (arith, query-few c) }
-
-element-copy-out-if1 : tie.Need-element-copy-out-if1 Inv-loop μ-loop
-element-copy-out-if1 c = query-few c
-
-mul-if1-2 : tie.Need-mul-if1-2 Inv-loop μ-loop
-mul-if1-2 c = record { fits = omega (arith, view-few (c .before)) }
-
-element-copy-out-if1-2 : tie.Need-element-copy-out-if1-2 Inv-loop μ-loop
-element-copy-out-if1-2 c = view-few (c .before)
-
-element-copy-out-if2 : tie.Need-element-copy-out-if2 Inv-loop μ-loop
-element-copy-out-if2 c = query-few (c .before .before .before)
-
-element-copy-out-if2-2 : tie.Need-element-copy-out-if2-2 Inv-loop μ-loop
-element-copy-out-if2-2 c = view-few (c .before .before .before .before)
-
 returns : tie.Need-returns Inv-loop μ-loop
 returns c =
     let x = c .before .before .before in
@@ -89,9 +71,6 @@ returns c =
 returns-2 : tie.Need-returns-2 Inv-loop μ-loop
 returns-2 c = (λ z. first-labels (c .before .before .before .before), λ E w. tt)
 
-element-copy-out-s : tie.Need-element-copy-out-s Inv-loop μ-loop
-element-copy-out-s c = query-few (c .before .before .before .before .before .before .before)
-
 cast-s : tie.Need-cast-s Inv-loop μ-loop
 cast-s c =
     let x = c .before in
@@ -104,12 +83,11 @@ element-copy-out-t c = view-few (c .before .before .before .before .before .befo
 cast-t-2 : tie.Need-cast-t-2 Inv-loop μ-loop
 cast-t-2 c = let x = c .before .before in record { fits = omega (arith, up x .0, view-few (looked x)) }
 
-loop-less : tie.Need-loop-less Inv-loop μ-loop
-loop-less c = up (c .before .before) .0
-
 loop-again : tie.Need-loop-again Inv-loop μ-loop
 loop-again c = let x = c .before .before in (up x .1, inr (first-labels (x .before .before .before .before)))
 
 pub agree-spec : {M : Type 1} → statement M
-agree-spec = tie.close (tie.spec Inv-loop μ-loop (λ c. search needs) loop-holds mul-if1 element-copy-out-if1 mul-if1-2 element-copy-out-if1-2
-    element-copy-out-if2 element-copy-out-if2-2 returns returns-2 element-copy-out-s cast-s element-copy-out-t cast-t-2 loop-less loop-again)
+agree-spec = tie.close (tie.spec Inv-loop μ-loop (λ c. search needs) loop-holds (λ c. record { fits = omega (arith, query-few c) }) (λ c. query-few c)
+    (λ c. record { fits = omega (arith, view-few (c .before)) }) (λ c. view-few (c .before)) (λ c. query-few (c .before .before .before))
+    (λ c. view-few (c .before .before .before .before)) returns returns-2 (λ c. query-few (c .before .before .before .before .before .before .before))
+    cast-s element-copy-out-t cast-t-2 (λ c. up (c .before .before) .0) loop-again)

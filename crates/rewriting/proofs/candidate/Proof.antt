@@ -42,14 +42,8 @@ returns c = (λ b. absurd b, λ E k s. omega (arith, k .long))
 main-step-requires : tie.Need-main-step-requires
 main-step-requires c κs = (c .before .before .before .before .pre .0, omega (arith, main-length (c .before .before .before .before .pre .1)))
 
-agree-requires : tie.Need-agree-requires
-agree-requires c κs = let x = c in (entry x .pre, (long (x .before), placed x))
-
 returns-2 : tie.Need-returns-2
 returns-2 c = (λ b. absurd b, λ E k s. failed (c .before .agree .result) (c .if2 .taken) (c .before .agree .ensures .1 E s))
-
-cut-requires : tie.Need-cut-requires
-cut-requires c κs = (entry (c .before .before) .pre .0, above (c .before .before))
 
 returns-3 : tie.Need-returns-3
 returns-3 c =
@@ -67,5 +61,6 @@ returns-3 c =
     )
 
 pub candidate-spec : {M : Type 1} → statement M
-candidate-spec = tie.close (tie.spec (λ c κs. search needs) (λ c κs. search needs) (λ c κs. search needs) returns main-step-requires agree-requires
-    returns-2 cut-requires returns-3)
+candidate-spec = tie.close (tie.spec (λ c κs. search needs) (λ c κs. search needs) (λ c κs. search needs) returns main-step-requires
+    (λ c κs. let x = c in (entry x .pre, (long (x .before), placed x))) returns-2
+    (λ c κs. (entry (c .before .before) .pre .0, above (c .before .before))) returns-3)

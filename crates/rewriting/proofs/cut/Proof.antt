@@ -36,21 +36,6 @@ late x =
     let a = x .before .before .before .before in
     cut-late (a .args .t1) (a .pre .0) (a .args .c) (a .pre .1) (x .before .loop .t) (omega arith) (omega (arith, sized (x .before .before .before)))
 
-cut-size-requires : tie.Need-cut-size-requires Inv-loop μ-loop
-cut-size-requires c κs = (c .pre .0, low c .0)
-
-cast-less : tie.Need-cast-less Inv-loop μ-loop
-cast-less c = omega (arith, low (c .before) .0)
-
-sub-t13 : tie.Need-sub-t13 Inv-loop μ-loop
-sub-t13 c = low (c .before) .1
-
-mul-p : tie.Need-mul-p Inv-loop μ-loop
-mul-p c = omega (arith, low (c .before) .0)
-
-element-copy-out-p : tie.Need-element-copy-out-p Inv-loop μ-loop
-element-copy-out-p c = omega (arith, low (c .before) .0)
-
 loop-holds : tie.Need-loop-holds Inv-loop μ-loop
 unfolding tableOf cutShape
 loop-holds c =
@@ -63,45 +48,6 @@ loop-holds c =
           (filled-none (cutShape (shapeOf (a .args .t1)) (a .args .c)) (c .before .cut-size .result) (a .args .t1 .output .0 - a .args .c) m refl (v .few))
           (v .some) refl refl (ap (λ x. getD (a .args .t1 .label) x 0) z),
     )
-
-add-p : tie.Need-add-p Inv-loop μ-loop
-add-p c = omega (arith, late c .0)
-
-element-copy-out-p-2 : tie.Need-element-copy-out-p-2 Inv-loop μ-loop
-element-copy-out-p-2 c = omega (arith, late c .0)
-
-sub-p : tie.Need-sub-p Inv-loop μ-loop
-sub-p c = omega (arith, late (c .before) .1)
-
-element-write-p-4 : tie.Need-element-write-p-4 Inv-loop μ-loop
-element-write-p-4 c = omega (arith, late (c .before) .0)
-
-add-p-2 : tie.Need-add-p-2 Inv-loop μ-loop
-add-p-2 c = omega (arith, late (c .before) .0)
-
-element-copy-out-p-3 : tie.Need-element-copy-out-p-3 Inv-loop μ-loop
-element-copy-out-p-3 c = omega (arith, late (c .before) .0)
-
-element-write-p-5 : tie.Need-element-write-p-5 Inv-loop μ-loop
-element-write-p-5 c = omega (arith, late (c .before .before) .0)
-
-add-p-3 : tie.Need-add-p-3 Inv-loop μ-loop
-add-p-3 c = omega (arith, late (c .before .before) .0)
-
-mul-p-2 : tie.Need-mul-p-2 Inv-loop μ-loop
-mul-p-2 c = omega (arith, late (c .before .before) .0)
-
-element-copy-out-p-4 : tie.Need-element-copy-out-p-4 Inv-loop μ-loop
-element-copy-out-p-4 c = omega (arith, late (c .before .before) .0)
-
-mul-p-3 : tie.Need-mul-p-3 Inv-loop μ-loop
-mul-p-3 c = omega (arith, late (c .before .before .before) .0)
-
-element-write-p-6 : tie.Need-element-write-p-6 Inv-loop μ-loop
-element-write-p-6 c = omega (arith, late (c .before .before .before) .0)
-
-add-t : tie.Need-add-t Inv-loop μ-loop
-add-t c = omega (arith, late (c .before .before .before) .0)
 
 loop-again : tie.Need-loop-again Inv-loop μ-loop
 unfolding cutShape
@@ -126,6 +72,11 @@ returns c =
     )
 
 pub cut-spec : {M : Type 1} → statement M
-cut-spec = tie.close (tie.spec Inv-loop μ-loop cut-size-requires cast-less sub-t13 (λ c. omega arith) (λ c. omega arith) mul-p element-copy-out-p
-    (λ c. omega arith) loop-holds add-p element-copy-out-p-2 sub-p element-write-p-4 add-p-2 element-copy-out-p-3 element-write-p-5 add-p-3 mul-p-2
-    element-copy-out-p-4 mul-p-3 element-write-p-6 add-t (λ c. omega arith) loop-again returns)
+cut-spec = tie.close (tie.spec Inv-loop μ-loop (λ c κs. (c .pre .0, low c .0)) (λ c. omega (arith, low (c .before) .0)) (λ c. low (c .before) .1)
+    (λ c. omega arith) (λ c. omega arith) (λ c. omega (arith, low (c .before) .0)) (λ c. omega (arith, low (c .before) .0)) (λ c. omega arith)
+    loop-holds (λ c. omega (arith, late c .0)) (λ c. omega (arith, late c .0)) (λ c. omega (arith, late (c .before) .1))
+    (λ c. omega (arith, late (c .before) .0)) (λ c. omega (arith, late (c .before) .0)) (λ c. omega (arith, late (c .before) .0))
+    (λ c. omega (arith, late (c .before .before) .0)) (λ c. omega (arith, late (c .before .before) .0))
+    (λ c. omega (arith, late (c .before .before) .0)) (λ c. omega (arith, late (c .before .before) .0))
+    (λ c. omega (arith, late (c .before .before .before) .0)) (λ c. omega (arith, late (c .before .before .before) .0))
+    (λ c. omega (arith, late (c .before .before .before) .0)) (λ c. omega arith) loop-again returns)

@@ -94,18 +94,12 @@ returns-3 c =
       refl,
     )
 
-candidate-requires : tie.Need-candidate-requires
-candidate-requires c κs = let p = passes c in (p .0, p .1 .0)
-
 returns-4 : tie.Need-returns-4
 returns-4 c =
     let f = c .before .before .before .candidate in
     let x = c .before .before .before .before in
     said (entry x .args .q) (entry x .args .v) rewriting.Nothing (c .beside4 .result) (c .beside4 .ensures)
     (passes x, λ E k s. failed (f .result .there) (c .before .if3 .taken) (f .ensures .1 E k s), refl)
-
-serves-requires : tie.Need-serves-requires
-serves-requires c κs = (passes (c .before .before .before .before) .0, joinable (c .before))
 
 returns-5 : tie.Need-returns-5
 returns-5 c =
@@ -128,5 +122,6 @@ returns-6 c =
 
 pub rewrite-spec : {M : Type 1} → statement M
 rewrite-spec = tie.close (tie.spec (λ c κs. search needs) (λ c. search needs) (λ c κs. search needs) returns (λ c. search needs)
-    (λ c κs. search needs) (λ c. search needs) (λ c κs. search needs) returns-2 (λ c. search needs) (λ c κs. search needs) returns-3 candidate-requires
-    (λ c κs. search needs) returns-4 serves-requires (λ c κs. search needs) returns-5 returns-6)
+    (λ c κs. search needs) (λ c. search needs) (λ c κs. search needs) returns-2 (λ c. search needs) (λ c κs. search needs) returns-3
+    (λ c κs. let p = passes c in (p .0, p .1 .0)) (λ c κs. search needs) returns-4
+    (λ c κs. (passes (c .before .before .before .before) .0, joinable (c .before))) (λ c κs. search needs) returns-5 returns-6)

@@ -32,9 +32,6 @@ put-named-requires c κs =
     let s = c .before .before .before .before in
     omega (arith, s .pre, line-length (now (s .args .word)) (now (s .args .list)))
 
-put-byte-requires : tie.Need-put-byte-requires
-put-byte-requires c κs = omega (arith, rest (c .before .before .before))
-
 put-list-requires : tie.Need-put-list-requires
 put-list-requires c κs =
     let x = c .before .before .before in
@@ -57,4 +54,5 @@ returns c =
     (c .before .before .put-byte2 .ensures)
 
 pub put-line-spec : {M : Type 1} → statement M
-put-line-spec = tie.close (tie.spec put-named-requires put-byte-requires put-list-requires put-byte-requires-2 (λ c. search needs) returns)
+put-line-spec = tie.close (tie.spec put-named-requires (λ c κs. omega (arith, rest (c .before .before .before))) put-list-requires put-byte-requires-2
+    (λ c. search needs) returns)

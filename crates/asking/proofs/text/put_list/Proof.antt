@@ -33,12 +33,9 @@ loop-again c =
     let p = c .before .before .put-item in
     spaced-next _ _ _ _ _ _ _ _ (omega (arith, x .pre)) (omega arith) (p .kept .0) (p .ensures) (l .inv)
 
-same-length : tie.Need-same-length Inv-loop μ-loop
-same-length c = c .before .loop .inv .same
-
 returns : tie.Need-returns Inv-loop μ-loop
 returns c = spaced-all _ _ _ _ _ _ (omega arith) (c .before .loop .inv)
 
 pub put-list-spec : {M : Type 1} → statement M
 put-list-spec = tie.close (tie.spec Inv-loop μ-loop loop-holds (λ c. search needs) (λ c. search needs) cast-put-item put-item-requires
-    (λ c. search needs) (λ c. search needs) loop-again same-length returns)
+    (λ c. search needs) (λ c. search needs) loop-again (λ c. c .before .loop .inv .same) returns)

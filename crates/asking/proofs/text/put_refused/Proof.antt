@@ -32,9 +32,6 @@ put-named-requires c κs =
     let s = c .before .before .before .before in
     omega (arith, s .pre, refused-length (s .args .number) (now (s .args .word)))
 
-put-byte-requires : tie.Need-put-byte-requires
-put-byte-requires c κs = omega (arith, rest (c .before .before .before))
-
 put-word-requires : tie.Need-put-word-requires
 put-word-requires c κs =
     let x = c .before .before .before in
@@ -57,5 +54,5 @@ returns c =
     (c .before .before .put-byte2 .ensures)
 
 pub put-refused-spec : {M : Type 1} → statement M
-put-refused-spec = tie.close (tie.spec (λ c. search needs) put-named-requires put-byte-requires put-word-requires put-byte-requires-2 (λ c. search needs)
-    returns)
+put-refused-spec = tie.close (tie.spec (λ c. search needs) put-named-requires (λ c κs. omega (arith, rest (c .before .before .before)))
+    put-word-requires put-byte-requires-2 (λ c. search needs) returns)
