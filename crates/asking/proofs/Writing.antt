@@ -139,12 +139,7 @@ pub refused-length : (k : ℕ) (w : List ℕ) → length (refusedLine k w) ≡ 7
 unfolding refusedLine
 refused-length k w =
     length-append (refusedWord ++ item k ++ (32 ∷ []) ++ w) (10 ∷ [])
-    ∙ omega (
-      arith,
-      length-append (refusedWord ++ item k ++ (32 ∷ [])) w,
-      length-append (refusedWord ++ item k) (32 ∷ []),
-      length-append refusedWord (item k),
-    )
+    ∙ omega (arith, length-append (refusedWord ++ item k ++ (32 ∷ [])) w, length-append (refusedWord ++ item k) (32 ∷ []), length-append refusedWord (item k))
 
 -- the line of a refusal, whose number has one digit
 pub refused-short : (k : ℕ) (w : List ℕ) → k < 10 → length (refusedLine k w) ≤ length w + 14

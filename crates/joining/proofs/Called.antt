@@ -67,10 +67,7 @@ module _ (A B C : Pattern) (ab l bc r : JoinAnswer) (jab : Joins A B ab) (jl : J
 
     -- joining three answers the one way exactly where it does the other
     pub called-either : ((ab .answer ≡ checked.Right) × (l .answer ≡ checked.Right)) ↔ ((bc .answer ≡ checked.Right) × (r .answer ≡ checked.Right))
-    called-either = (
-      λ w. right-right .1 (join-assoc-accepted A B C .0 (left-right .0 w)),
-      λ w. left-right .1 (join-assoc-accepted A B C .1 (right-right .0 w)),
-    )
+    called-either = (λ w. right-right .1 (join-assoc-accepted A B C .0 (left-right .0 w)), λ w. left-right .1 (join-assoc-accepted A B C .1 (right-right .0 w)))
 
     -- and gives one pattern
     pub called-assoc : ab .answer ≡ checked.Right → l .answer ≡ checked.Right → l .pattern ≡ r .pattern

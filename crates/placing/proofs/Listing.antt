@@ -103,7 +103,4 @@ lists-passing (suc n) p P h = go (p n) (h n) (lists-passing n p P h)
       λ q. ⊎-elim (λ x. (omega (arith, x .0), x .1)) (λ e. (omega arith, subst P (sym e) (t .says tt))) q,
       λ q. below-or-at (q .0) (λ l. inl (l, q .1)) (λ e. inr e),
     ))
-    go false t r = lists-iff r (λ i. (
-      λ q. (omega (arith, q .0), q .1),
-      λ q. below-or-at (q .0) (λ l. (l, q .1)) (λ e. absurd (t .test (subst P e (q .1)))),
-    ))
+    go false t r = lists-iff r (λ i. (λ q. (omega (arith, q .0), q .1), λ q. below-or-at (q .0) (λ l. (l, q .1)) (λ e. absurd (t .test (subst P e (q .1))))))

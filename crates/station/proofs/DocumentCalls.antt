@@ -128,10 +128,7 @@ pub answers-small : (ds ps room₀ room : List ℕ) (a : Counted) → AnswersPac
 answers-small ds ps room₀ room (counted.Count c) h =
     let v = packet-valid ps (
       h .says .0 .1 .1 .1 .1 .0,
-      (
-        h .says .0 .1 .1 .1 .1 .1 .0,
-        (h .says .0 .1 .1 .1 .1 .1 .1 .0, (h .says .0 .1 .1 .1 .1 .1 .1 .1 .0, tt)),
-      ),
+      (h .says .0 .1 .1 .1 .1 .1 .0, (h .says .0 .1 .1 .1 .1 .1 .1 .0, (h .says .0 .1 .1 .1 .1 .1 .1 .1 .0, tt))),
     ) in
     let f = h .says .1 in
     omega (

@@ -71,10 +71,7 @@ module _ (d : Document) (ps list₀ work₀ list work : List ℕ) where
     pub started-unread : (r : Refusal) → Refuses (patternChecks ps) r → list ≡ list₀ → work ≡ work₀ → ListStarted d ps starts list₀ work₀ (counted.Refused r)
         list work
     started-unread r h e f = record {
-      says = (
-        refuses-front (patternChecks ps) (startedChecks (packetPattern ps) d starts (length list₀) (length work₀)) r h,
-        (e, f),
-      );
+      says = (refuses-front (patternChecks ps) (startedChecks (packetPattern ps) d starts (length list₀) (length work₀)) r h, (e, f));
     }
 
     pub started-read : (p : Pattern) (a : Counted) → Decided (patternChecks ps) checked.Right (p ≡ packetPattern ps) (p ≡ zeroPattern) → FindsStarted p d

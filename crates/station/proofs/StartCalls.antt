@@ -150,10 +150,7 @@ pub starts-small : (ds ps ss room₀ room : List ℕ) (a : Counted) → StartsPa
 starts-small ds ps ss room₀ room (counted.Count c) h =
     let v = packet-valid ps (
       h .says .0 .1 .1 .1 .1 .0,
-      (
-        h .says .0 .1 .1 .1 .1 .1 .0,
-        (h .says .0 .1 .1 .1 .1 .1 .1 .0, (h .says .0 .1 .1 .1 .1 .1 .1 .1 .0, tt)),
-      ),
+      (h .says .0 .1 .1 .1 .1 .1 .0, (h .says .0 .1 .1 .1 .1 .1 .1 .0, (h .says .0 .1 .1 .1 .1 .1 .1 .1 .0, tt))),
     ) in
     let f = h .says .1 in
     omega (

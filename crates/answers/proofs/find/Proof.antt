@@ -12,14 +12,7 @@ descend-requires c κs =
     let s = c .before .before .before .before .before .before .before .before .before .before .before in
     let v = s .pre .1 .0 in (
       s .pre .0,
-      (
-        v,
-        (
-          s .pre .1 .1 .0,
-          plain-ready (shapeOf (s .args .t1)) _ (s .pre .0) v _ _ (s .pre .1 .1 .1)
-              (c .before .before .before .before .rise .ensures),
-        ),
-      ),
+      (v, (s .pre .1 .1 .0, plain-ready (shapeOf (s .args .t1)) _ (s .pre .0) v _ _ (s .pre .1 .1 .1) (c .before .before .before .before .rise .ensures))),
     )
 
 returns : tie.Need-returns

@@ -96,13 +96,7 @@ returns-7 c =
     let y = c .before .before .before .before .before .before .before .before .before .before .before .before .before in (
       (
         patterned (y .before .before .before),
-        (
-          documented y,
-          (
-            begun (c .before .before .before .before .before .before .before .before .before),
-            ((omega arith, omega arith), tt),
-          ),
-        ),
+        (documented y, (begun (c .before .before .before .before .before .before .before .before .before), ((omega arith, omega arith), tt))),
       ),
       c .before .before .before .before .find-started .ensures,
     )

@@ -28,13 +28,7 @@ returns-2 c =
     absurd (refuses-not-passes (startedChecks (x .args .p) (documentOf (now (x .args .parents)) (now (x .args .labels)))
     (now (x .args .starts)) (length (now (x .args .list))) 4096) (c .enum-told .given .0 .0) (h .0) (
       x .pre .0,
-      (
-        x .pre .1 .0,
-        (
-          (x .pre .1 .1 .0, x .pre .1 .1 .1 .0),
-          ((omega (arith, x .pre .1 .1 .1 .1, x .pre .1 .0 .few), omega (arith, x .pre .1 .0 .few)), tt),
-        ),
-      ),
+      (x .pre .1 .0, ((x .pre .1 .1 .0, x .pre .1 .1 .1 .0), ((omega (arith, x .pre .1 .1 .1 .1, x .pre .1 .0 .few), omega (arith, x .pre .1 .0 .few)), tt))),
     ))
 
 pub find-started-spec : {M : Type 1} → statement M

@@ -54,22 +54,7 @@ put-third-requires c κs =
       x .pre .0,
       (
         x .pre .1 .0,
-        (
-          x .pre .1 .1 .0,
-          (
-            l,
-            omega (
-              arith,
-              x .pre .1 .1 .1,
-              p .ensures .end,
-              p .kept .0,
-              s .ensures .end,
-              s .kept .0,
-              view-short y,
-              query-short y,
-            ),
-          ),
-        ),
+        (x .pre .1 .1 .0, (l, omega (arith, x .pre .1 .1 .1, p .ensures .end, p .kept .0, s .ensures .end, s .kept .0, view-short y, query-short y))),
       ),
     )
 

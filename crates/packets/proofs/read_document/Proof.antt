@@ -136,11 +136,7 @@ returns-5 c =
       document-passes (bytes x) (length p) (length l) (header x) (valid y)
           (omega (arith, nodes x .1 .0, c .before .before .before .before .before .before .before .before .before .before .before .if1 .left))
           (omega (arith, nodes x .1 .0, c .before .before .before .before .before .before .before .before .before .before .if2 .left)),
-      (
-        nodes x .1 .0,
-        e ∙ ap (λ d. d .parents ++ drop n p) (fronts x),
-        f ∙ ap (λ d. d .labels ++ drop n l) (fronts x),
-      ),
+      (nodes x .1 .0, e ∙ ap (λ d. d .parents ++ drop n p) (fronts x), f ∙ ap (λ d. d .labels ++ drop n l) (fronts x)),
     )
 
 pub read-document-spec : {M : Type 1} → statement M

@@ -35,16 +35,7 @@ returns-6 c = unsized (omega arith) (omega arith) (λ z. omega arith)
 
 returns-7 : tie.Need-returns-7
 returns-7 c = (
-  (
-    omega arith,
-    (
-      omega arith,
-      (
-        (c .before .before .before .before .half-at .result / 4, omega arith, omega arith, omega arith, omega arith),
-        tt,
-      ),
-    ),
-  ),
+  (omega arith, (omega arith, ((c .before .before .before .before .half-at .result / 4, omega arith, omega arith, omega arith, omega arith), tt))),
   omega arith,
 )
 

@@ -18,10 +18,7 @@ abbrev μ-loop : tie.MeasureT-loop
 
 -- step c is one of the pattern's, and not past the output step
 low : (x : tie.Start Inv-loop μ-loop) → (x .args .c < x .args .t1 .count) × (x .args .c ≤ x .args .t1 .output .0)
-low x = (
-  cut-here (x .args .t1) (x .pre .0) (x .args .c) (x .pre .1),
-  omega (arith, cut-is (x .args .t1) (x .pre .0) (x .args .c) (x .pre .1) .output),
-)
+low x = (cut-here (x .args .t1) (x .pre .0) (x .args .c) (x .pre .1), omega (arith, cut-is (x .args .t1) (x .pre .0) (x .args .c) (x .pre .1) .output))
 
 -- the number of steps is the cut's
 sized : (x : tie.After-cut-size Inv-loop μ-loop) → x .cut-size .result ≡ cutShape (shapeOf (x .before .args .t1)) (x .before .args .c) .tree .size

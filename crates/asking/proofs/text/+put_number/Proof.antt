@@ -51,12 +51,7 @@ put-number-returns-2 t c =
     rw (decimal-large (x .args .n) (omega arith)) (wrote-then (omega (arith, x .pre .1)) (y .put-number .ensures) (c .before .before .put-byte2 .ensures))
 
 pub +put-number-spec : {M : Type 1} → statement M
-+put-number-spec = close μ-put-number λ t. put-number-lts.spec (
-  put-byte-reads.Asked,
-  put-byte-reads.Learnt,
-  put-number-below t,
-  put-number.Post,
-)
++put-number-spec = close μ-put-number λ t. put-number-lts.spec (put-byte-reads.Asked, put-byte-reads.Learnt, put-number-below t, put-number.Post)
     (put-number-at t) put-number.Post (λ c. omega arith) (λ c. omega arith)
     (λ c κs. let x = c .before .before .before in omega (arith, x .pre .1, ap length (decimal-small (x .args .n) (omega arith))))
     (λ c κs. let x = c .before .before .before in
