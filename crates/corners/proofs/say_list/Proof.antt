@@ -1,6 +1,6 @@
 -- `corners::say_list` is safe and ends: every entry that it prints is one of the list. Assumes nothing.
-use borrow.Author.Needs.{needs}
 use Prim.Native.Nat.{_-_}
+use borrow.Author.Needs.{needs}
 use Rattle.corners.proofs.say_list.Statement.{statement}
 use Rattle.corners.proofs.say_list.Tie as tie
 
@@ -20,6 +20,5 @@ returns : tie.Need-returns Inv-loop μ-loop
 returns c = search needs
 
 pub say-list-spec : {M : Type 1} → statement M
-say-list-spec = tie.close (tie.spec Inv-loop μ-loop loop-holds (λ c. search needs) (λ c κs. search needs) (λ c. search needs) (λ c. search needs)
-    (λ c κs. search needs) (λ c κs. search needs) (λ c. search needs) (λ c. search needs) loop-again (λ c. search needs) (λ c κs. search needs)
-    returns)
+say-list-spec = tie.close (tie.spec Inv-loop μ-loop loop-holds (λ c. search needs) (λ c. search needs) (λ c. search needs) (λ c κs. search needs)
+    (λ c κs. search needs) (λ c. search needs) (λ c. search needs) loop-again (λ c. search needs) (λ c κs. search needs) returns)
