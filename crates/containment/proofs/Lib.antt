@@ -9,10 +9,7 @@ pub mod FreshLabel
 pub mod Contained
 pub mod Deciding
 pub mod Unique
-pub mod Planned
-pub mod Masks
 pub mod StepFits
-pub mod Lifted
 pub mod Images
 pub mod Greedily
 pub mod Verdicts

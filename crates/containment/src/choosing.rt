@@ -8,7 +8,6 @@ ghost use Rattle.tables.specs.Bits.{bit};
 ghost use Rattle.tables.specs.Pattern.{Shape, shapeOf, ValidPattern};
 ghost use Rattle.containment.specs.inner.Feasible.{FitsIn, FitTable, Picks, Listed, ImageAt, Chosen};
 ghost use Rattle.containment.specs.Mapping.{BeginsIn};
-use crate::fitting;
 use tables::Pattern;
 use tables::StepNo;
 
@@ -34,7 +33,7 @@ pub(crate) fn first_image(n: usize, own: u8, axis: u8, fit: &[u64; 64]) -> usize
     let m = first_steps(n, own, axis);
     let mut s = 0;
     while s < m {
-        if fitting::has_bit(fit[s], 0) {
+        if plan::has_bit(fit[s], 0) {
             return s;
         }
         s += 1;
@@ -47,7 +46,7 @@ fn takes(x: u64, t: usize, axis: u8, q: usize, p: usize, own: u8) -> bool
     requires { ⌜ t < 64 ⌝ }
     ensures { λ r. ⌜ T r ↔ ((axis ≡ 0 → (p ≡ q) × (own ≡ 0)) × (bit x t ≡ 1)) ⌝ }
 {
-    if !fitting::has_bit(x, t) {
+    if !plan::has_bit(x, t) {
         return false;
     }
     if axis != 0 {

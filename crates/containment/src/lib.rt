@@ -118,7 +118,7 @@ fn within(a: Pattern, b: Pattern) -> bool
     ensures { λ r. ⌜ T r ↔ Contained (shapeOf a) (shapeOf b) ⌝ }
 {
     let mut fit = [0u64; 64];
-    fitting::lift(a, b, &mut fit);
+    fitting::fit_steps(a, b, &mut fit);
     choosing::first_image(a.count, a.axis[0], b.axis[0], &fit) != 64
 }
 
@@ -158,7 +158,7 @@ fn compare(a: Pattern, b: Pattern) -> VerdictAnswer
     ensures { λ r. ⌜ Decides a b r ⌝ }
 {
     let mut fit = [0u64; 64];
-    fitting::lift(a, b, &mut fit);
+    fitting::fit_steps(a, b, &mut fit);
     let first = choosing::first_image(a.count, a.axis[0], b.axis[0], &fit);
     if first == 64 {
         return unmapped(Verdict::Apart);

@@ -15,8 +15,8 @@ picks : (c : tie.After-first-image)
     (c .first-image .result)
 picks c =
     let s = c .before .before .before .before .before .before in
-    first-picked (shapeOf (s .args .t1)) (shapeOf (s .args .t2)) (s .pre .0) (s .pre .1) (c .before .before .before .before .lift .last .1 .1 .0) _
-    (c .before .before .before .before .lift .ensures) (c .first-image .ensures)
+    first-picked (shapeOf (s .args .t1)) (shapeOf (s .args .t2)) (s .pre .0) (s .pre .1) (c .before .before .before .before .fit-steps .last .1 .1 .0) _
+    (c .before .before .before .before .fit-steps .ensures) (c .first-image .ensures)
 
 returns : tie.Need-returns
 returns c =
@@ -30,7 +30,7 @@ choose-requires : tie.Need-choose-requires
 choose-requires c κs =
     let g = c .before .before in
     let s = g .before .before .before .before .before .before in
-    (s .pre, (g .before .before .before .before .lift .ensures, (picks g, pick-below (picks g) (c .before .if1 .left))))
+    (s .pre, (g .before .before .before .before .fit-steps .ensures, (picks g, pick-below (picks g) (c .before .if1 .left))))
 
 returns-2 : tie.Need-returns-2
 returns-2 c =
