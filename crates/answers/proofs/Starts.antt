@@ -1,26 +1,14 @@
 -- What the loops over a start list keep: the list is right as far as it was read, and its nodes are marked. Assumes nothing.
 use Prim.Native.Nat.{ℕ, zero, suc, _+_, _*_, _≤_, _<_}
 use mathlib.Core.Path.{_≡_, refl, sym, ap, _∙_}
-use mathlib.Core.Bool.{Bool, true, false, not}
 use mathlib.Core.List.{List}
 use native.Mathlib.Omega.{arith}
 use native.Mathlib.Decide.{ℕ-discrete}
 use lib.ListN.{length, getD, set, length-set}
 use lib.Seq.{getD-set-same, getD-set-other}
 use Rattle.tables.proofs.Choice.{below-or-at}
-use Rattle.tables.proofs.Tests.{passed, failed}
 use Rattle.placing.specs.Answer.{In, Ascending}
-use Rattle.answers.specs.inner.Plan.{Says}
 use Rattle.answers.specs.inner.Passes.{Marked}
-
--- what a flag says, after a test of its negation
-pub says-passed : (X : Type 0) (b : Bool) → not b ≡ false → Says b X → X
-says-passed X true e h = h
-says-passed X false e h = absurd (passed false e)
-
-pub says-failed : (X : Type 0) (b : Bool) → not b ≡ true → Says b X → X → ⊥
-says-failed X true e h x = failed true e tt
-says-failed X false e h x = h x
 
 -- the first k entries ascend and are below n; what comes next is at least `least`
 pub record Rising (xs : List ℕ) (n k least : ℕ) : Type 0 where

@@ -115,5 +115,5 @@ returns c =
 
 pub gather-spec : {M : Type 1} → statement M
 gather-spec = tie.close (tie.spec Inv-loop μ-loop loop-holds (λ c. omega arith) cast-s (λ c κs. omega arith) one-bit-requires-2 mul-children
-    element-copy-out-children mul-children-2 element-write-children (λ c. omega arith) (λ c. omega arith) (λ c. omega arith) add-if2 (λ c. omega arith)
-    (λ c. omega arith) loop-again returns)
+    element-copy-out-children mul-children-2 element-write-children (λ c. omega arith) (λ c. omega arith) (λ c. omega arith) add-if2
+    (λ c. omega arith) (λ c. omega arith) loop-again returns)

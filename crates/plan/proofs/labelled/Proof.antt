@@ -8,4 +8,5 @@ returns : tie.Need-returns
 returns c = λ A t. of-label A _ _ _ t
 
 pub labelled-spec : {M : Type 1} → statement M
-labelled-spec = tie.close (tie.spec (λ c. search needs) (λ c. search needs) (λ c. search needs) (λ c. search needs) (λ c. search needs) (λ c. search needs) returns)
+labelled-spec = tie.close (tie.spec (λ c. search needs) (λ c. search needs) (λ c. search needs) (λ c. search needs) (λ c. search needs)
+    (λ c. search needs) returns)

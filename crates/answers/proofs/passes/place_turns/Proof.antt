@@ -7,22 +7,22 @@ use lib.ListN.{length, length-replicate}
 use native.Mathlib.Omega.{arith}
 use Rattle.tables.specs.Document.{ValidDocument, documentOf}
 use Rattle.tables.specs.Pattern.{Shape}
-use Rattle.answers.specs.inner.Plan.{ChildPlan}
+use Rattle.plan.specs.Plans.{DownPlan}
 use Rattle.answers.specs.inner.Passes.{Marked, Ready, Downward, Listed}
 use Rattle.answers.proofs.Listed.{down-ready, listed-start, listed-noted, listed-found, noted-few}
-use Rattle.answers.proofs.passes.lower.Statement.{statement}
-use Rattle.answers.proofs.passes.lower.Tie as tie
+use Rattle.answers.proofs.passes.place_turns.Statement.{statement}
+use Rattle.answers.proofs.passes.place_turns.Tie as tie
 
 abbrev Inv-loop : tie.InvT-loop
-Inv-loop kids de near forks output parents work₀ list₀ allowed₀ n c₀ i₀ work list allowed c i =
+Inv-loop table sets output parents work₀ list₀ allowed₀ n c₀ i₀ work list allowed c i =
     (i ≤ n) × (length allowed ≡ 2048) × (length work ≡ length work₀) × (length list ≡ length list₀) × (c ≤ i)
-    × ((A : Shape) (labels : List ℕ) → ValidDocument (documentOf parents labels) → ChildPlan A kids de near forks → A .output ≡ output →
+    × ((A : Shape) (labels : List ℕ) → ValidDocument (documentOf parents labels) → DownPlan A table sets → A .output ≡ output →
     Ready A (documentOf parents labels) work₀
     → Downward A (documentOf parents labels) (Marked work₀) i work₀ work allowed × Listed A
     (documentOf parents labels) (Marked work₀) i c list₀ list)
 
 abbrev μ-loop : tie.MeasureT-loop
-μ-loop kids de near forks output parents work₀ list₀ allowed₀ n c₀ i₀ work list allowed c i = n - i
+μ-loop table sets output parents work₀ list₀ allowed₀ n c₀ i₀ work list allowed c i = n - i
 
 loop-holds : tie.Need-loop-holds Inv-loop μ-loop
 loop-holds c =
@@ -33,11 +33,11 @@ loop-holds c =
       refl,
       omega arith,
       λ A labels v k o r.
-          (down-ready A _ _ _ r, listed-start A _ (Marked (now (s .args .work))) (k .valid) _),
+          (down-ready A _ _ _ r, listed-start A _ (Marked (now (s .args .work))) (k .sets-of .valid) _),
     )
 
-turn-down-requires : tie.Need-turn-down-requires Inv-loop μ-loop
-turn-down-requires c κs =
+place-turn-requires : tie.Need-place-turn-requires Inv-loop μ-loop
+place-turn-requires c κs =
     let m = c .before .before .before in
     let s = m .before .before .before .before in
     ((omega arith, omega (arith, s .pre .0 .1), omega (arith, s .pre .0 .2, m .loop .inv .2), m .loop .inv .1), λ h. s .pre .1 (m .loop .i) h (omega arith))
@@ -58,9 +58,10 @@ loop-again c =
     let m = c .before .before .before .before .before .before .before .before .before .before in
     let s = m .before .before .before .before in
     let n = c .before .before .note .ensures in
-    let z = c .before .before .before .before .before .before .turn-down .ensures .0 in
+    let z = c .before .before .before .before .before .before .place-turn .ensures .0 in
     let w = noted-few _ _ _ _ _ _ _ n in
-    let l : m .loop .c < length (now (s .args .list)) = omega (arith, s .pre .0 .3, m .loop .inv .4) in (
+    let g = c .before .before .before .before .before .before .before .before .before .loop-test .taken in
+    let l : m .loop .c < length (now (s .args .list)) = omega (arith, s .pre .0 .3, m .loop .inv .4, g) in (
       omega arith,
       z .1 ∙ m .loop .inv .1,
       z .0 ∙ m .loop .inv .2,
@@ -68,8 +69,8 @@ loop-again c =
       omega (arith, w .0, m .loop .inv .4),
       λ A labels v k o r.
           let u = m .loop .inv .5 A labels v k o r in
-          let t = c .before .before .before .before .before .before .turn-down .ensures .1 A labels (now (s .args .work)) v k (u .0) in
-          (t .0, listed-noted A _ (Marked (now (s .args .work))) (k .valid) _ _ (m .loop .i) (m .loop .c) _ _ _ _ o (t .1) n l (u .1)),
+          let t = c .before .before .before .before .before .before .place-turn .ensures .1 A labels (now (s .args .work)) v k (u .0) in
+          (t .0, listed-noted A _ (Marked (now (s .args .work))) (k .sets-of .valid) _ _ (m .loop .i) (m .loop .c) _ _ _ _ o (t .1) n l (u .1)),
     )
 
 same-length : tie.Need-same-length Inv-loop μ-loop
@@ -85,8 +86,8 @@ returns c =
     let e : m .loop .i ≡ length (now (s .args .parents)) = omega arith in
     λ A labels v k o r.
     let u = rw e at (m .loop .inv .5 A labels v k o r) in
-    listed-found A _ (Marked (now (s .args .work))) (k .valid) _ _ _ _ _ _ (u .1) (u .0)
+    listed-found A _ (Marked (now (s .args .work))) (k .sets-of .valid) _ _ _ _ _ _ (u .1) (u .0)
 
-pub lower-spec : {M : Type 1} → statement M
-lower-spec = tie.close (tie.spec Inv-loop μ-loop loop-holds turn-down-requires note-requires (λ c. omega arith) (λ c. omega arith) loop-again
+pub place-turns-spec : {M : Type 1} → statement M
+place-turns-spec = tie.close (tie.spec Inv-loop μ-loop loop-holds place-turn-requires note-requires (λ c. omega arith) (λ c. omega arith) loop-again
     same-length same-length-2 returns)

@@ -6,8 +6,8 @@ use Rattle.tables.specs.Document.{documentOf}
 use Rattle.answers.specs.inner.Passes.{Marked}
 use Rattle.answers.proofs.TurnDown.{turned}
 use borrow.Author.Needs.{needs}
-use Rattle.answers.proofs.passes.turn_down.Statement.{statement}
-use Rattle.answers.proofs.passes.turn_down.Tie as tie
+use Rattle.answers.proofs.passes.place_turn.Statement.{statement}
+use Rattle.answers.proofs.passes.place_turn.Tie as tie
 
 above-requires : tie.Need-above-requires
 above-requires c κs =
@@ -19,12 +19,12 @@ returns c =
     let s = c .before .before .before .before .before .before .before in
     let a = c .before .before .before .above .ensures in (
       (simp length-set, simp length-set),
-      λ A labels before v k u. turned A _ _ _ _ k (documentOf (now (s .args .parents)) labels)
+      λ A labels before v k u. turned A (k .sets-of .valid) (documentOf (now (s .args .parents)) labels)
           (Marked before) v (s .args .i) _ _ before _ _ (s .pre .0 .0) (s .pre .1) (s .pre .0 .2) (omega (arith, s .pre .0 .1, s .pre .0 .3)) (a .0) (a .1)
-          (c .pass-on .ensures) u,
+          (c .pass-on .ensures A k) u,
     )
 
-pub turn-down-spec : {M : Type 1} → statement M
-turn-down-spec = tie.close (tie.spec above-requires (λ c. search needs) (λ c. search needs) (λ c. search needs) (λ c. search needs)
+pub place-turn-spec : {M : Type 1} → statement M
+place-turn-spec = tie.close (tie.spec above-requires (λ c. search needs) (λ c. search needs) (λ c. search needs) (λ c. search needs)
     (λ c. search needs) (λ c. search needs) (λ c. search needs) (λ c. search needs) (λ c. search needs) (λ c. search needs) (λ c. search needs)
     (λ c κs. search needs) (λ c. search needs) (λ c. search needs) (λ c. search needs) returns)
