@@ -22,10 +22,8 @@ fn clear(work: &mut [u64], m: usize)
     requires { ⌜ m ≤ length (now work) ⌝ }
     ensures { λ _. ⌜ now (work .exit) ≡ replicate m 0 ++ drop m (now (work .entry)) ⌝ }
 {
-    let mut k = 0;
-    while k < m {
+    for k in 0..m {
         work[k] = 0;
-        k += 1;
     }
 }
 
@@ -57,15 +55,14 @@ fn above(allowed: &[u64; 2048], parents: &[u16], i: usize) -> u64
 pub(crate) fn starts_right(starts: &[u16], n: usize) -> bool
     ensures { λ r. ⌜ ((d : Document) → nodeCount d ≡ n → T r ↔ StartList d (now (starts .entry))) ⌝ }
 {
-    let mut k = 0;
+    let m = starts.len();
     let mut least: usize = 0;
-    while k < starts.len() {
+    for k in 0..m {
         let x = starts[k] as usize;
         if x < least || n <= x {
             return false;
         }
         least = x + 1;
-        k += 1;
     }
     true
 }
@@ -78,11 +75,10 @@ pub(crate) fn mark_starts(starts: &[u16], n: usize, work: &mut [u64])
     ensures others { λ _. ⌜ ((q : ℕ) → ((i : ℕ) → In (now (starts .entry)) i → q ≡ 2 * i + 1 → ⊥) → getD (now (work .exit)) q 0 ≡ getD (now (work .entry)) q
         0) ⌝ }
 {
-    let mut k = 0;
-    while k < starts.len() {
+    let m = starts.len();
+    for k in 0..m {
         let node = starts[k] as usize;
         work[2 * node + 1] = 1;
-        k += 1;
     }
 }
 
@@ -202,11 +198,9 @@ fn place_turns(
     let mut allowed = [0u64; 2048];
     let n = parents.len();
     let mut c = 0;
-    let mut i = 0;
-    while i < n {
+    for i in 0..n {
         let whole = place_turn(table, sets, parents, i, work, &mut allowed);
         c = note(list, c, i, whole, output);
-        i += 1;
     }
     c
 }

@@ -31,12 +31,10 @@ pub(crate) fn first_image(n: usize, own: u8, axis: u8, fit: &[u64; 64]) -> usize
     ensures { λ r. ⌜ Picks (λ j. ((j < n) × (axis ≡ 0 → (j ≡ 0) × (own ≡ 0))) × (bit (getD (now (fit .entry)) j 0) 0 ≡ 1)) r ⌝ }
 {
     let m = first_steps(n, own, axis);
-    let mut s = 0;
-    while s < m {
+    for s in 0..m {
         if plan::has_bit(fit[s], 0) {
             return s;
         }
-        s += 1;
     }
     64
 }
@@ -74,13 +72,11 @@ fn next_image(
     ensures { λ r. ⌜ ((A : Shape) → Listed A (now (parents .entry)) (now (axes .entry)) n → ((j : ℕ) × ImageAt A (now (fit .entry)) t axis q j) → Picks
         (ImageAt A (now (fit .entry)) t axis q) r) ⌝ }
 {
-    let mut s = q + 1;
-    while s < n {
+    for s in q + 1..n {
         let p = parents[s] as usize;
         if takes(fit[s], t, axis, q, p, axes[s]) {
             return s;
         }
-        s += 1;
     }
     64
 }
@@ -97,13 +93,11 @@ pub(crate) fn choose(a: Pattern, b: Pattern, fit: &[u64; 64], first: usize) -> [
     let mut mapping = [StepNo(0); 64];
     mapping[0] = StepNo(first as u8);
     let n = b.count;
-    let mut t = 1;
-    while t < n {
+    for t in 1..n {
         let o = b.parent[t] as usize;
         let q = mapping[o].0 as usize;
         let s = next_image(&parents, &axes, a.count, fit, t, b.axis[t], q);
         mapping[t] = StepNo(s as u8);
-        t += 1;
     }
     mapping
 }

@@ -62,13 +62,11 @@ fn mark_labels(a: Pattern, used: &mut [bool; 256])
     ensures { λ _. ⌜ ((k : ℕ) → T (getD (now (used .exit)) k false) → T (getD (now (used .entry)) k false) ⊎ Stands (shapeOf a) k) ⌝ }
 {
     let n = a.count;
-    let mut s = 0;
-    while s < n {
+    for s in 0..n {
         let l = a.label[s] as usize;
         if l < 256 {
             used[l] = true;
         }
-        s += 1;
     }
 }
 

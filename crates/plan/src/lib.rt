@@ -38,15 +38,13 @@ pub fn label_steps(p: Pattern, low: &mut [u64; 256], high: &mut [u64; 256])
     ensures { λ _. ⌜ Labelled (shapeOf p) (now (low .exit)) (now (high .exit)) ⌝ }
 {
     let n = p.count;
-    let mut s = 0;
-    while s < n {
+    for s in 0..n {
         let l = p.label[s];
         let a = (l % 256) as usize;
         let b = (l / 256) as usize;
         let m = one_bit(s);
         low[a] = low[a] | m;
         high[b] = high[b] | m;
-        s += 1;
     }
 }
 
@@ -78,8 +76,7 @@ pub fn gather(p: Pattern, children: &mut [u64; 64], parents: &mut [u64; 64]) -> 
     let mut descendant: u64 = 0;
     let mut next: u64 = 0;
     let mut forked: u64 = 0;
-    let mut t = 1;
-    while t < n {
+    for t in 1..n {
         let s = p.parent[t] as usize;
         let own = one_bit(t);
         let up = one_bit(s);
@@ -95,7 +92,6 @@ pub fn gather(p: Pattern, children: &mut [u64; 64], parents: &mut [u64; 64]) -> 
         } else {
             forked = forked | up;
         }
-        t += 1;
     }
     Sets {
         child: child,
@@ -119,10 +115,8 @@ fn double(table: &mut [u64; 2048], base: usize, top: usize, m: u64)
     requires { ⌜ (length (now table) ≡ 2048) × (base + 2 * top ≤ 2048) ⌝ }
     ensures { λ _. ⌜ Doubled (now (table .entry)) base top m (now (table .exit)) ⌝ }
 {
-    let mut u = 0;
-    while u < top {
+    for u in 0..top {
         table[base + top + u] = table[base + u] | m;
-        u += 1;
     }
 }
 
@@ -131,10 +125,8 @@ pub fn spread(to: &[u64; 64], n: usize, table: &mut [u64; 2048])
     requires { ⌜ (n ≤ 64) × (now table ≡ replicate 2048 0) ⌝ }
     ensures { λ _. ⌜ Spread (λ t s. bit (getD (now (to .entry)) t 0) s ≡ 1) n (now (table .exit)) ⌝ }
 {
-    let mut t = 0;
-    while t < n {
+    for t in 0..n {
         double(table, 256 * (t / 8), 1 << (t % 8), to[t]);
-        t += 1;
     }
 }
 
@@ -143,10 +135,8 @@ fn look_up(table: &[u64; 2048], x: u64) -> u64
     ensures { λ r. ⌜ r ≡ lookUp (now (table .entry)) x 8 ⌝ }
 {
     let mut r: u64 = 0;
-    let mut c = 0;
-    while c < 8 {
+    for c in 0..8 {
         r = r | table[256 * c + ((x >> (8 * c)) % 256) as usize];
-        c += 1;
     }
     r
 }
@@ -206,15 +196,13 @@ pub fn group(
     ensures { λ r. ⌜ Groups (now (children .entry)) next n r (now (forks .exit)) (now (later .exit)) ⌝ }
 {
     let mut k = 0;
-    let mut s = 0;
-    while s < n {
+    for s in 0..n {
         let x = children[s] ^ (children[s] & next);
         if x != 0 {
             forks[k] = one_bit(s);
             later[k] = x;
             k += 1;
         }
-        s += 1;
     }
     k
 }
@@ -225,12 +213,10 @@ fn reached(forks: &[u64; 64], later: &[u64; 64], n: usize, m: u64) -> u64
     ensures { λ r. ⌜ Marks r (Reached (now (forks .entry)) (now (later .entry)) m n) ⌝ }
 {
     let mut x: u64 = 0;
-    let mut k = 0;
-    while k < n {
+    for k in 0..n {
         if m & later[k] != 0 {
             x = x | forks[k];
         }
-        k += 1;
     }
     x
 }

@@ -12,10 +12,10 @@ use Rattle.answers.proofs.passes.starts_right.Statement.{statement}
 use Rattle.answers.proofs.passes.starts_right.Tie as tie
 
 abbrev Inv-loop : tie.InvT-loop
-Inv-loop starts n k₀ least₀ k least = (k ≤ length starts) × Rising starts n k least
+Inv-loop starts n m least₀ k₀ least k = (k ≤ m) × Rising starts n k least
 
 abbrev μ-loop : tie.MeasureT-loop
-μ-loop starts n k₀ least₀ k least = length starts - k
+μ-loop starts n m least₀ k₀ least k = m - k
 
 loop-holds : tie.Need-loop-holds Inv-loop μ-loop
 loop-holds c = (omega arith, rising-start _ _)
