@@ -4,7 +4,7 @@ pub mod Unique
 pub mod Upward
 pub mod Downward
 pub mod TurnDown
-pub mod Listed
+pub mod AnswerList
 pub mod Stores
 pub mod Starts
 pub mod Finding

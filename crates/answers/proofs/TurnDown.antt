@@ -34,15 +34,15 @@ module _ (A : Shape) (va : ValidShape A) where
         (marks-or over start Over (λ s. (s ≡ 0) × First i) mo ms)
 
     -- what is passed on, once it is known that only steps stand at a node
-    abbrev Passes : ℕ → ℕ → ℕ → Type 0
-    Passes whole over x = ((t : ℕ) → bit whole t ≡ 1 → t < A .tree .size) → Marks x (PassedOn A whole over)
+    abbrev HandsOn : ℕ → ℕ → ℕ → Type 0
+    HandsOn whole over x = ((t : ℕ) → bit whole t ≡ 1 → t < A .tree .size) → Marks x (PassedOn A whole over)
 
     -- what a node finds, node 0 and the others
     record Turn (i over whole x : ℕ) : Type 0 where
       placed : Marks whole (PlacedAt A d First i)
       allows : Marks x (Allowed A d First i)
 
-    turn-root : (fit over start x : ℕ) → Marks fit (FitsAt A d 0) → over ≡ 0 → Marks start (λ s. (s ≡ 0) × First 0) → Passes (bitAnd fit (bitOr over start)) over x
+    turn-root : (fit over start x : ℕ) → Marks fit (FitsAt A d 0) → over ≡ 0 → Marks start (λ s. (s ≡ 0) × First 0) → HandsOn (bitAnd fit (bitOr over start)) over x
         → Turn 0 over (bitAnd fit (bitOr over start)) x
     turn-root fit over start x mf z ms p =
         let None : ℕ → Type 0 = λ s. ⊥ in
@@ -61,7 +61,7 @@ module _ (A : Shape) (va : ValidShape A) where
 
     turn-node : (q i fit over start x : ℕ) → Child (nodesOf d .tree) q i → Marks fit (FitsAt A d i) → Marks over (Allowed A d First q) → Marks start
         (λ s. (s ≡ 0) × First i)
-        → Passes (bitAnd fit (bitOr over start)) over x → Turn i over (bitAnd fit (bitOr over start)) x
+        → HandsOn (bitAnd fit (bitOr over start)) over x → Turn i over (bitAnd fit (bitOr over start)) x
     turn-node q i fit over start x c mf mo ms p =
         let whole : ℕ = bitAnd fit (bitOr over start) in
         let mw : Marks whole (PlacedAt A d First i) = node-placed A d First va vd q i c whole
@@ -78,7 +78,7 @@ module _ (A : Shape) (va : ValidShape A) where
     -- either way, from the state before the turn
     turn-any : (i over x : ℕ) (before work allowed : List ℕ) → i < nodeCount d → (0 < i → getD (d .parents) i 0 < i)
         → (i ≡ 0 → over ≡ 0) → (0 < i → over ≡ getD allowed (getD (d .parents) i 0) 0)
-        → Passes (bitAnd (getD work (2 * i) 0) (bitOr over (getD work (2 * i + 1) 0))) over x → Downward A d First i before work allowed
+        → HandsOn (bitAnd (getD work (2 * i) 0) (bitOr over (getD work (2 * i + 1) 0))) over x → Downward A d First i before work allowed
         → Turn i over (bitAnd (getD work (2 * i) 0) (bitOr over (getD work (2 * i + 1) 0))) x
     turn-any zero over x before work allowed l up z y p u = turn-root (getD work (2 * 0) 0) over (getD work (2 * 0 + 1) 0) x (u .fits 0 l) (z refl)
         (u .starts 0 (omega arith) l) p
@@ -93,7 +93,7 @@ module _ (A : Shape) (va : ValidShape A) where
     pub turned : (i over x : ℕ) (before work allowed : List ℕ) → i < nodeCount d → (0 < i → getD (d .parents) i 0 < i) → 2 * i + 1 < length work → i < length
         allowed
         → (i ≡ 0 → over ≡ 0) → (0 < i → over ≡ getD allowed (getD (d .parents) i 0) 0)
-        → Passes (bitAnd (getD work (2 * i) 0) (bitOr over (getD work (2 * i + 1) 0))) over x
+        → HandsOn (bitAnd (getD work (2 * i) 0) (bitOr over (getD work (2 * i + 1) 0))) over x
         → Downward A d First i before work allowed
         → Downward A d First (i + 1) before (set work (2 * i + 1) (bitAnd (getD work (2 * i) 0) (bitOr over (getD work (2 * i + 1) 0)))) (set allowed i x)
         × Marks (bitAnd (getD work (2 * i) 0) (bitOr over (getD work (2 * i + 1) 0))) (PlacedAt A d First i)

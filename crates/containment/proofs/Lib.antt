@@ -13,7 +13,7 @@ pub mod StepFits
 pub mod Images
 pub mod Greedily
 pub mod Verdicts
-pub mod Writing
-pub mod Marked
+pub mod WitnessSteps
+pub mod UsedLabels
 pub mod Answering
 pub mod Called

@@ -6,7 +6,7 @@ ghost use lib.Dec.{T};
 ghost use lib.ListN.{getD};
 ghost use Rattle.tables.specs.Bits.{bit};
 ghost use Rattle.tables.specs.Pattern.{Shape, shapeOf, ValidPattern};
-ghost use Rattle.containment.specs.inner.Feasible.{FitsIn, FitTable, Picks, Listed, ImageAt, Chosen};
+ghost use Rattle.containment.specs.inner.Feasible.{FitsIn, FitTable, Picks, StepLists, ImageAt, Chosen};
 ghost use Rattle.containment.specs.Mapping.{BeginsIn};
 use tables::Pattern;
 use tables::StepNo;
@@ -69,7 +69,7 @@ fn next_image(
 ) -> usize
     requires { ⌜ (n ≤ 64) × (t < 64) × (q < n) ⌝ }
     requires { ⌜ ((j : ℕ) → 0 < j → j < n → getD (now parents) j 0 < 64) ⌝ }
-    ensures { λ r. ⌜ ((A : Shape) → Listed A (now (parents .entry)) (now (axes .entry)) n → ((j : ℕ) × ImageAt A (now (fit .entry)) t axis q j) → Picks
+    ensures { λ r. ⌜ ((A : Shape) → StepLists A (now (parents .entry)) (now (axes .entry)) n → ((j : ℕ) × ImageAt A (now (fit .entry)) t axis q j) → Picks
         (ImageAt A (now (fit .entry)) t axis q) r) ⌝ }
 {
     for s in q + 1..n {

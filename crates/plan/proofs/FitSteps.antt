@@ -25,20 +25,20 @@ module _ (A : Shape) (sets : Sets) (g : SetsOf A sets) (c d : ℕ) where
   abbrev Edge : ℕ → Type 0
   Edge t = OfAxis A 0 t ⊎ OfAxis A 1 t
 
-  abbrev Found : ℕ → Type 0
-  Found t = ((bit c t ≡ 1) × OfAxis A 0 t) ⊎ ((bit d t ≡ 1) × OfAxis A 1 t)
+  abbrev Had : ℕ → Type 0
+  Had t = ((bit c t ≡ 1) × OfAxis A 0 t) ⊎ ((bit d t ≡ 1) × OfAxis A 1 t)
 
   -- having a place, by the axis
   place : (t a b : ℕ) → a ≡ b → bit (maskFor a c d) t ≡ 1 → bit (maskFor b c d) t ≡ 1
   place t a b e h = subst (λ (x : ℕ). bit (maskFor x c d) t ≡ 1) e h
 
-  missing-into : (t : ℕ) → Edge t × (Found t → ⊥) → Missing A c d t
+  missing-into : (t : ℕ) → Edge t × (Had t → ⊥) → Missing A c d t
   missing-into t q = ⊎-elim
       (λ o. (o .0, o .1, λ h. q .1 (inl (place t (A .axis t) 0 (o .2) h, o))))
       (λ o. (o .0, o .1, λ h. q .1 (inr (place t (A .axis t) 1 (o .2) h, o))))
       (q .0)
 
-  missing-back : (t : ℕ) → Missing A c d t → Edge t × (Found t → ⊥)
+  missing-back : (t : ℕ) → Missing A c d t → Edge t × (Had t → ⊥)
   missing-back t q = (
     ⊎-elim (λ e. inl (q .0, q .1, e)) (λ e. inr (q .0, q .1, e)) (g .valid .steps t (q .1) .axis),
     λ f. q .2 (⊎-elim (λ o. place t 0 (A .axis t) (sym (o .1 .2)) (o .0)) (λ o. place t 1 (A .axis t) (sym (o .1 .2)) (o .0)) f),
@@ -51,8 +51,8 @@ module _ (A : Shape) (sets : Sets) (g : SetsOf A sets) (c d : ℕ) where
       let y = sets .descendant in
       let on = marks-and c x (λ t. bit c t ≡ 1) (OfAxis A 0) (marks-bits c) (g .child) in
       let under = marks-and d y (λ t. bit d t ≡ 1) (OfAxis A 1) (marks-bits d) (g .descendant) in
-      marks-to (without (bitOr x y) (bitOr (bitAnd c x) (bitAnd d y))) (λ t. Edge t × (Found t → ⊥)) (Missing A c d) missing-into missing-back
-      (marks-without (bitOr x y) (bitOr (bitAnd c x) (bitAnd d y)) Edge Found
+      marks-to (without (bitOr x y) (bitOr (bitAnd c x) (bitAnd d y))) (λ t. Edge t × (Had t → ⊥)) (Missing A c d) missing-into missing-back
+      (marks-without (bitOr x y) (bitOr (bitAnd c x) (bitAnd d y)) Edge Had
       (marks-or x y (OfAxis A 0) (OfAxis A 1) (g .child) (g .descendant))
       (marks-or (bitAnd c x) (bitAnd d y) (λ t. (bit c t ≡ 1) × OfAxis A 0 t) (λ t. (bit d t ≡ 1) × OfAxis A 1 t) on under))
 

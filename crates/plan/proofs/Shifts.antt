@@ -12,7 +12,7 @@ use Rattle.tables.specs.Tree.{Child}
 use Rattle.tables.specs.Pattern.{Shape, ValidShape}
 use Rattle.tables.proofs.Bits.{bit-zero, bit-and, bit-shr, bit-mod}
 use Rattle.tables.proofs.Marks.{marks-bits, marks-and}
-use Rattle.plan.specs.Steps.{Next, Forks}
+use Rattle.plan.specs.Steps.{Next, Forked}
 use Rattle.plan.specs.Leading.{ToParent, Led}
 
 -- a bit of a number shifted up by one
@@ -22,7 +22,7 @@ bit-up x s l =
     let f : 1 + s ≡ suc s = omega arith in
     bit-mod (x * 2 ^ 1) 64 (suc s) l ∙ ap (bit (x * 2 ^ 1)) (sym f) ∙ sym (bit-shr (x * 2 ^ 1) 1 s) ∙ ap (λ y. bit y s) e
 
-module _ (A : Shape) (v : ValidShape A) (next forked : ℕ) (n : Marks next (Next A)) (f : Forks A forked) where
+module _ (A : Shape) (v : ValidShape A) (next forked : ℕ) (n : Marks next (Next A)) (f : Forked A forked) where
   -- a step of a set without forked has no child step but the next
   pub only-next : (x s t : ℕ) → bitAnd x forked ≡ 0 → bit x s ≡ 1 → Child (A .tree) s t → s + 1 ≡ t
   only-next x s t z b k = go (ℕ-discrete (s + 1) t)

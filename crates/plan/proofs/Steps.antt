@@ -14,7 +14,7 @@ use Rattle.tables.specs.Pattern.{Shape}
 use Rattle.tables.proofs.Bits.{set-here, set-other}
 use Rattle.tables.proofs.Marks.{marks-none, marks-to, marks-one, marks-and}
 use Rattle.tables.proofs.Gathered.{zeros-at, Keyed, keyed-all}
-use Rattle.plan.specs.Steps.{OfLabel, Labelled, Forks}
+use Rattle.plan.specs.Steps.{OfLabel, Labelled, Forked}
 use Rattle.plan.specs.Leading.{ToParent}
 
 -- entry u has the one number f u, where u is from 1 on and below k
@@ -87,7 +87,7 @@ module _ (A : Shape) where
       (marks-and x y Low High (t .lows (l % 256)) (t .highs (l / 256)))
 
   -- the steps on which another step than the next hangs
-  pub forks-all : (x : ℕ) → Forking (A .tree .parent) (A .tree .size) x → Forks A x
+  pub forks-all : (x : ℕ) → Forking (A .tree .parent) (A .tree .size) x → Forked A x
   forks-all x m =
       record { has = λ s t k n. subst (λ y. bit x y ≡ 1) (k .up) (m .has t (k .late) (k .here) (λ e. n (subst (λ y. y + 1 ≡ t) (k .up) e))) }
 

@@ -6,7 +6,7 @@
 --   Labelled  the steps by the two bytes of their label
 --   OfAxis    the steps past step 0 of an axis
 --   Next      the steps that hang on the step just before them
---   Forks     a set has every step on which a step other than the next one hangs
+--   Forked     a set has every step on which a step other than the next one hangs
 --   SetsOf    the sets are those of a pattern
 --   Missing   the steps that have no place below a row
 --   Lacks     the steps with a child step that has none
@@ -51,7 +51,7 @@ abbrev pub Next : Shape → ℕ → Type 0
 Next A t = (0 < t) × (t < A .tree .size) × (A .tree .parent t + 1 ≡ t)
 
 -- x has every step on which a step other than the next one hangs
-pub record Forks (A : Shape) (x : ℕ) : Type 0 where
+pub record Forked (A : Shape) (x : ℕ) : Type 0 where
   pub has : (s t : ℕ) → Child (A .tree) s t → (s + 1 ≡ t → ⊥) → bit x s ≡ 1
 
 -- the sets are those of A, which obeys the rules
@@ -60,7 +60,7 @@ pub record SetsOf (A : Shape) (x : Sets) : Type 0 where
   pub child : Marks (x .child) (OfAxis A 0)
   pub descendant : Marks (x .descendant) (OfAxis A 1)
   pub next : Marks (x .next) (Next A)
-  pub forked : Forks A (x .forked)
+  pub forked : Forked A (x .forked)
 
 -- step t past step 0 has no place below a row, where c has the steps with a place at a child edge, d those with one anywhere below
 abbrev pub Missing : Shape → ℕ → ℕ → ℕ → Type 0

@@ -4,7 +4,7 @@ use Rattle.tables.specs.Pattern.{shapeOf}
 use Rattle.tables.proofs.Rules.{document-ordered}
 use Rattle.tables.proofs.Trees.{parent-lt}
 use Rattle.placing.specs.Answer.{Begins}
-use Rattle.answers.proofs.Listed.{found-first}
+use Rattle.answers.proofs.AnswerList.{found-first}
 use Rattle.answers.proofs.Finding.{found-before, plain-ready, plain-first, plain-length, plain-rest}
 use borrow.Author.Needs.{needs}
 use Rattle.answers.proofs.find.Statement.{statement}

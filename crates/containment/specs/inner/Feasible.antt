@@ -4,7 +4,7 @@
 --   FitsIn     a step of B that fits at a step of A
 --   FitTable   a table of the steps of B that fit at each step of A
 --   Picks      the smallest number of a kind
---   Listed     a pattern's parents and axes as lists
+--   StepLists     a pattern's parents and axes as lists
 --   ImageAt    a step that may take another, by a table
 --   Chosen     the smallest mapping as an array
 --   Wrote      the nodes of one step of a witness
@@ -51,7 +51,7 @@ pub data Picks (X : ℕ → Type 0) (r : ℕ) : Type 0 where
   nothing : r ≡ 64 → ((j : ℕ) → X j → ⊥) → Picks X r
 
 -- A, which obeys the rules, has n steps, with these parents and axes
-pub record Listed (A : Shape) (parents axes : List ℕ) (n : ℕ) : Type 0 where
+pub record StepLists (A : Shape) (parents axes : List ℕ) (n : ℕ) : Type 0 where
   pub valid : ValidShape A
   pub count : A .tree .size ≡ n
   pub parent : (j : ℕ) → A .tree .parent j ≡ getD parents j 0

@@ -9,7 +9,7 @@ use Rattle.tables.specs.Document.{ValidDocument, documentOf}
 use Rattle.tables.specs.Pattern.{Shape}
 use Rattle.plan.specs.Plans.{DownPlan}
 use Rattle.answers.specs.inner.Passes.{Marked, Ready, Downward, Listed}
-use Rattle.answers.proofs.Listed.{down-ready, listed-start, listed-noted, listed-found, noted-few}
+use Rattle.answers.proofs.AnswerList.{down-ready, listed-start, listed-noted, listed-found, noted-few}
 use Rattle.answers.proofs.passes.place_turns.Statement.{statement}
 use Rattle.answers.proofs.passes.place_turns.Tie as tie
 

@@ -7,18 +7,18 @@ use lib.ListN.{length, getD}
 use native.Mathlib.Omega.{arith}
 use native.Mathlib.Numerals.{add-one}
 use denote.Ref.{now}
-use Rattle.answers.proofs.Starts.{Rising, rising-start, rising-more, rising-low}
+use Rattle.answers.proofs.Starts.{Ascends, ascends-start, ascends-more, ascends-low}
 use Rattle.answers.proofs.passes.starts_right.Statement.{statement}
 use Rattle.answers.proofs.passes.starts_right.Tie as tie
 
 abbrev Inv-loop : tie.InvT-loop
-Inv-loop starts n m least₀ k₀ least k = (k ≤ m) × Rising starts n k least
+Inv-loop starts n m least₀ k₀ least k = (k ≤ m) × Ascends starts n k least
 
 abbrev μ-loop : tie.MeasureT-loop
 μ-loop starts n m least₀ k₀ least k = m - k
 
 loop-holds : tie.Need-loop-holds Inv-loop μ-loop
-loop-holds c = (omega arith, rising-start _ _)
+loop-holds c = (omega arith, ascends-start _ _)
 
 cast-x : tie.Need-cast-x Inv-loop μ-loop
 cast-x c = omega (arith, c .shared-slice-known .given (c .before .before .loop .k))
@@ -30,7 +30,7 @@ returns c =
     λ d e. (
       λ t. absurd t,
       λ w. ⊎-elim
-          (λ q. rising-low _ _ (l .loop .k) (l .loop .least) (l .loop .inv .1) (q .taken) (omega arith) (w .ascending))
+          (λ q. ascends-low _ _ (l .loop .k) (l .loop .least) (l .loop .inv .1) (q .taken) (omega arith) (w .ascending))
           (λ q. omega (arith, leb-true (l .before .args .n) x (q .1 .taken), w .nodes (l .loop .k) (omega arith)))
           (c .if1 .came),
     )
@@ -45,9 +45,9 @@ loop-again c =
     let l = c .before .before .before .before in
     let xs = now (l .before .args .starts) in
     let k = l .loop .k in
-    let r : Rising xs (l .before .args .n) (suc k) (suc (getD xs k 0)) = rising-more _ _ k (l .loop .least) (l .loop .inv .1) (omega arith)
+    let r : Ascends xs (l .before .args .n) (suc k) (suc (getD xs k 0)) = ascends-more _ _ k (l .loop .least) (l .loop .inv .1) (omega arith)
     (leb-false (l .before .args .n) (getD xs k 0) (c .if2 .left)) in
-    (omega arith, rw (add-one k) (subst (Rising xs (l .before .args .n) (suc k)) {x = suc (getD xs k 0)} (omega arith) r))
+    (omega arith, rw (add-one k) (subst (Ascends xs (l .before .args .n) (suc k)) {x = suc (getD xs k 0)} (omega arith) r))
 
 returns-2 : tie.Need-returns-2 Inv-loop μ-loop
 returns-2 c =
