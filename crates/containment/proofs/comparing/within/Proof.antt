@@ -1,10 +1,10 @@
--- `containment::within` meets its contract: the first step picked tells whether there is a mapping. Assumes nothing.
+-- `containment::comparing::within` meets its contract: the first step picked tells whether there is a mapping. Assumes nothing.
 use Rattle.tables.specs.Pattern.{shapeOf}
 use Rattle.tables.proofs.Tests.{tells-not, tells-eq}
 use Rattle.containment.proofs.Verdicts.{first-picked, not-contained, picked-contained}
 use borrow.Author.Needs.{needs}
-use Rattle.containment.proofs.within.Statement.{statement}
-use Rattle.containment.proofs.within.Tie as tie
+use Rattle.containment.proofs.comparing.within.Statement.{statement}
+use Rattle.containment.proofs.comparing.within.Tie as tie
 
 returns : tie.Need-returns
 returns c =

@@ -1,12 +1,12 @@
--- `containment::decide` meets its contract: both patterns are checked, then compared. Assumes nothing.
+-- `containment::comparing::decide` meets its contract: both patterns are checked, then compared. Assumes nothing.
 use mathlib.Core.Path.{subst}
 use Rattle.tables.specs.Checks.{ChecksPattern}
 use Rattle.tables.specs.Pattern.{ValidPattern}
 use Rattle.containment.specs.inner.Verdict.{Decides}
 use Rattle.containment.proofs.Verdicts.{first-refused, second-refused}
 use borrow.Author.Needs.{needs}
-use Rattle.containment.proofs.decide.Statement.{statement}
-use Rattle.containment.proofs.decide.Tie as tie
+use Rattle.containment.proofs.comparing.decide.Statement.{statement}
+use Rattle.containment.proofs.comparing.decide.Tie as tie
 
 -- past the first test the first pattern obeys the rules
 valid : (x : tie.After-enum-told) → ValidPattern (x .before .before .before .args .a)
@@ -16,7 +16,7 @@ returns : tie.Need-returns
 returns c =
     let k = c .before .before .before .before in
     let a = k .before .args in
-    let u = c .unmapped .ensures in
+    let u = c .beside .ensures in
     rw (u .0) (
       first-refused (a .a) (a .b) (c .before .before .r .given .0 .0)
           (subst (ChecksPattern (a .a)) (c .before .before .r .given .1) (k .check-pattern .ensures)),
@@ -27,7 +27,7 @@ returns-2 : tie.Need-returns-2
 returns-2 c =
     let k = c .before .before .before .before in
     let a = k .before .before .before .before .args in
-    let u = c .unmapped2 .ensures in
+    let u = c .beside2 .ensures in
     rw (u .0) (
       second-refused (a .a) (a .b) (c .before .before .r2 .given .0 .0) (valid (k .before))
           (subst (ChecksPattern (a .b)) (c .before .before .r2 .given .1) (k .check-pattern2 .ensures)),

@@ -1,12 +1,12 @@
--- `containment::compare` meets its contract: the first step picked tells whether there is a mapping. Assumes nothing.
+-- `containment::comparing::compare` meets its contract: the first step picked tells whether there is a mapping. Assumes nothing.
 use Rattle.tables.specs.Pattern.{shapeOf}
 use Rattle.containment.specs.Mapping.{BeginsIn}
 use Rattle.containment.specs.inner.Feasible.{FitsIn, Picks}
 use Rattle.containment.proofs.Images.{pick-below}
 use Rattle.containment.proofs.Verdicts.{first-picked, not-contained, within-chosen, told-apart}
 use borrow.Author.Needs.{needs}
-use Rattle.containment.proofs.compare.Statement.{statement}
-use Rattle.containment.proofs.compare.Tie as tie
+use Rattle.containment.proofs.comparing.compare.Statement.{statement}
+use Rattle.containment.proofs.comparing.compare.Tie as tie
 
 -- the step picked is the smallest that may take step 0
 picks : (c : tie.After-first-image)
@@ -22,8 +22,8 @@ returns : tie.Need-returns
 returns c =
     let g = c .before .before in
     let s = g .before .before .before .before .before .before in
-    let u = c .unmapped .ensures in
-    told-apart (s .args .t1) (s .args .t2) (c .unmapped .result) (s .pre .0) (s .pre .1) (u .0) (u .1)
+    let u = c .beside .ensures in
+    told-apart (s .args .t1) (s .args .t2) (c .beside .result) (s .pre .0) (s .pre .1) (u .0) (u .1)
     (not-contained _ _ (s .pre .0) (s .pre .1) _ (c .before .if1 .taken) (picks g))
 
 choose-requires : tie.Need-choose-requires
