@@ -18,9 +18,9 @@ use Rattle.placing.specs.Placement.{Goes}
 use Rattle.placing.proofs.Fit.{Whole, whole-able, whole-root, whole-up, whole-down}
 use Rattle.placing.proofs.Sending.{task, reaches-whole}
 use Rattle.answers.specs.Working.{FitsAt, PlacedAt}
-use Rattle.answers.specs.inner.Plan.{ToChildren, Led}
-use Rattle.answers.specs.inner.Passes.{Upward, Allowed, Downward}
-use Rattle.answers.proofs.NodeFits.{fits-able, able-fits}
+use Rattle.plan.specs.Leading.{Led}
+use Rattle.answers.specs.inner.Passes.{Allowed, Downward}
+use Rattle.answers.proofs.Upward.{can}
 
 module _ (A : Shape) (d : Document) (First : ℕ → Type 0) (va : ValidShape A) (vd : ValidDocument d) where
   placed-whole : (i s : ℕ) → PlacedAt A d First i s → Whole (task A (nodesOf d)) First s i
@@ -30,13 +30,13 @@ module _ (A : Shape) (d : Document) (First : ℕ → Type 0) (va : ValidShape A)
   whole-placed i s l w = (l, reaches-whole A (nodesOf d) First s i .0 w)
 
   placed-fits : (i s : ℕ) → PlacedAt A d First i s → FitsAt A d i s
-  placed-fits i s h = able-fits A d va s i (h .0) (whole-able (task A (nodesOf d)) First (shape-ordered va) s i (h .0) (placed-whole i s h))
+  placed-fits i s h = can A d va i s .0 (h .0, whole-able (task A (nodesOf d)) First (shape-ordered va) s i (h .0) (placed-whole i s h))
 
   placed-first : (i : ℕ) → PlacedAt A d First i 0 → First i
   placed-first i h = let w = placed-whole i 0 h in subst First (w .at) (w .start)
 
   first-placed : (i : ℕ) → FitsAt A d i 0 → First i → PlacedAt A d First i 0
-  first-placed i h f = whole-placed i 0 (h .0) (whole-root (task A (nodesOf d)) First (shape-ordered va) i f (fits-able A d va 0 i h .1))
+  first-placed i h f = whole-placed i 0 (h .0) (whole-root (task A (nodesOf d)) First (shape-ordered va) i f (can A d va i 0 .1 h .1))
 
   -- a step that stands in a placement has its parent step standing above it
   placed-up : (i s t : ℕ) → Child (A .tree) s t → PlacedAt A d First i t → (j : ℕ) × PlacedAt A d First j s × Goes (nodesOf d) (A .axis t) j i
@@ -46,7 +46,7 @@ module _ (A : Shape) (d : Document) (First : ℕ → Type 0) (va : ValidShape A)
 
   placed-down : (i j s t : ℕ) → Child (A .tree) s t → PlacedAt A d First j s → Goes (nodesOf d) (A .axis t) j i → FitsAt A d i t → PlacedAt A d First i t
   placed-down i j s t c h g f = whole-placed i t (f .0) (whole-down (task A (nodesOf d)) First (shape-ordered va) t s i j c (placed-whole j s h) g
-      (fits-able A d va t i f .1))
+      (can A d va i t .1 f .1))
 
   axis-one : (t a : ℕ) → t < A .tree .size → A .axis t ≡ suc a → A .axis t ≡ 1
   axis-one t a l e = ⊎-elim (λ z. absurd (omega arith)) (λ z. z) (va .steps t l .axis)
@@ -86,7 +86,7 @@ module _ (A : Shape) (d : Document) (First : ℕ → Type 0) (va : ValidShape A)
     -- what the node's children may take: child steps of those that stand at it, and what was allowed from further above
     module _ (whole : ℕ) (mw : Marks whole (PlacedAt A d First i)) where
       abbrev Passed : ℕ → Type 0
-      Passed t = Led (ToChildren A) whole t ⊎ (Allowed A d First p t × (A .axis t ≡ 1))
+      Passed t = Led (Child (A .tree)) whole t ⊎ (Allowed A d First p t × (A .axis t ≡ 1))
 
       passed-allowed : (t : ℕ) → Passed t → Allowed A d First i t
       passed-allowed t h = ⊎-elim
@@ -130,8 +130,8 @@ module _ (A : Shape) (d : Document) (First : ℕ → Type 0) (va : ValidShape A)
       ))
       m
 
-  pub root-allowed : (whole : ℕ) → Marks whole (PlacedAt A d First 0) → (x : ℕ) → Marks x (Led (ToChildren A) whole) → Marks x (Allowed A d First 0)
-  root-allowed whole mw x m = marks-to x (Led (ToChildren A) whole) (Allowed A d First 0)
+  pub root-allowed : (whole : ℕ) → Marks whole (PlacedAt A d First 0) → (x : ℕ) → Marks x (Led (Child (A .tree)) whole) → Marks x (Allowed A d First 0)
+  root-allowed whole mw x m = marks-to x (Led (Child (A .tree)) whole) (Allowed A d First 0)
       (λ t w. (
         w .0,
         w .2,
@@ -148,19 +148,6 @@ module _ (A : Shape) (d : Document) (First : ℕ → Type 0) (va : ValidShape A)
     where
       top : (a : ℕ) → From (nodesOf d .tree) a 0 → a ≡ 0
       top a w = omega (arith, from-le (document-ordered vd) a 0 w)
-
-  -- before the first turn
-  pub down-start : (seed : ℕ) (before work allowed : List ℕ) → Upward A d seed 0 before work →
-      ((i : ℕ) → i < nodeCount d → Marks (getD work (2 * i + 1) 0) (λ s. (s ≡ 0) × First i))
-      → Downward A d First 0 before work allowed
-  down-start seed before work allowed u m = record {
-    same-length = u .same-length;
-    fits = λ i l. u .fits i (omega arith) l;
-    placed = λ i l. absurd (omega arith);
-    starts = λ i k l. m i l;
-    allows = λ i l. absurd (omega arith);
-    rest = u .rest;
-  }
 
   -- one turn: node i gets its second entry, and what its children may take
   pub down-turn : (i whole x : ℕ) (before work after allowed allowed′ : List ℕ) → i < nodeCount d → Downward A d First i before work allowed

@@ -13,7 +13,7 @@ use Rattle.tables.specs.Pattern.{Shape, ValidShape}
 use Rattle.tables.proofs.Tests.{Tells}
 use Rattle.placing.specs.Answer.{Begins, In}
 use Rattle.answers.specs.Answers.{Found}
-use Rattle.answers.specs.inner.Passes.{Upward, Marked, Ready}
+use Rattle.answers.specs.inner.Passes.{Fitted, Marked, Ready}
 use Rattle.answers.proofs.Tested.{isIn, tells-in}
 
 -- what the list held before the second pass matters only in its length and past the nodes' entries
@@ -36,7 +36,7 @@ found-before A d First list₀ work₀ w c list work e r h = record {
 
 module _ (A : Shape) (d : Document) (va : ValidShape A) (vd : ValidDocument d) (before work : List ℕ) (room : 2 * nodeCount d ≤ length before) where
   -- step 0 of axis child starts at node 0, which is marked; of axis descendant at every node, as the seed says
-  module _ (u : Upward A d (A .axis 0) 0 before work) where
+  module _ (u : Fitted A d (A .axis 0) before work) where
     marked : List ℕ
     marked = set work 1 1
 
@@ -45,7 +45,7 @@ module _ (A : Shape) (d : Document) (va : ValidShape A) (vd : ValidDocument d) (
 
     entry : (i : ℕ) → i < nodeCount d → (i ≡ 0 → ⊥) → getD marked (2 * i + 1) 0 ≡ A .axis 0
     unfolding marked
-    entry i l n = getD-set-other work 1 (2 * i + 1) 1 0 (omega arith) ∙ u .seeded i (omega arith) l
+    entry i l n = getD-set-other work 1 (2 * i + 1) 1 0 (omega arith) ∙ u .seeded i l
 
     first : getD marked 1 0 ≡ 1
     unfolding marked
@@ -59,7 +59,7 @@ module _ (A : Shape) (d : Document) (va : ValidShape A) (vd : ValidDocument d) (
     unfolding marked
     plain-ready = record {
       room = omega (arith, length-set work 1 1, u .same-length);
-      fits = λ i l. rw (getD-set-other work 1 (2 * i) 1 0 (omega arith)) (u .fits i (omega arith) l);
+      fits = λ i l. rw (getD-set-other work 1 (2 * i) 1 0 (omega arith)) (u .fits i l);
       flags = λ i l. flag i l (ℕ-discrete i 0);
     }
 
@@ -82,12 +82,12 @@ module _ (A : Shape) (d : Document) (va : ValidShape A) (vd : ValidDocument d) (
     plain-rest q l = getD-set-other work 1 q 1 0 (omega (arith, vd .some)) ∙ u .rest q l
 
   -- in the started form the start nodes are marked, in a list without seeds
-  module _ (u : Upward A d 0 0 before work) (starts after : List ℕ) (few : (k : ℕ) → k < length starts → getD starts k 0 < nodeCount d)
+  module _ (u : Fitted A d 0 before work) (starts after : List ℕ) (few : (k : ℕ) → k < length starts → getD starts k 0 < nodeCount d)
       (long : length after ≡ length work) (put : (i : ℕ) → In starts i → Marked after i)
       (old : (q : ℕ) → ((i : ℕ) → In starts i → q ≡ 2 * i + 1 → ⊥) → getD after q 0 ≡ getD work q 0) where
     -- an unmarked node keeps its zero
     zero-entry : (i : ℕ) → i < nodeCount d → (In starts i → ⊥) → getD after (2 * i + 1) 0 ≡ 0
-    zero-entry i l n = old (2 * i + 1) (λ j w e. n (subst (In starts) {x = j} (omega arith) w)) ∙ u .seeded i (omega arith) l
+    zero-entry i l n = old (2 * i + 1) (λ j w e. n (subst (In starts) {x = j} (omega arith) w)) ∙ u .seeded i l
 
     start : (i : ℕ) → i < nodeCount d → (b : Bool) → Tells b (In starts i) → Marked after i ⊎ (getD after (2 * i + 1) 0 ≡ 0)
     start i l true t = inl (put i (t .says tt))
@@ -96,7 +96,7 @@ module _ (A : Shape) (d : Document) (va : ValidShape A) (vd : ValidDocument d) (
     pub started-ready : Ready A d after
     started-ready = record {
       room = omega (arith, u .same-length);
-      fits = λ i l. rw (old (2 * i) (λ j w e. omega arith)) (u .fits i (omega arith) l);
+      fits = λ i l. rw (old (2 * i) (λ j w e. omega arith)) (u .fits i l);
       flags = λ i l. start i l (isIn starts i) (tells-in starts i);
     }
 

@@ -1,15 +1,10 @@
--- The answers of a pattern: a test that runs, that no second result fits, and the laws that the plan and the two passes cite. Assumes nothing.
+-- The answers of a pattern: a test that runs, that no second result fits, and the laws that the two passes cite. Assumes nothing.
 pub mod Tested
 pub mod Unique
-pub mod Gathering
-pub mod Lookups
-pub mod Nearby
-pub mod Fitting
-pub mod NodeFits
 pub mod Upward
 pub mod Downward
 pub mod TurnDown
-pub mod Listed
+pub mod AnswerList
 pub mod Stores
 pub mod Starts
 pub mod Finding

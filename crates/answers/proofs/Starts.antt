@@ -1,39 +1,27 @@
 -- What the loops over a start list keep: the list is right as far as it was read, and its nodes are marked. Assumes nothing.
 use Prim.Native.Nat.{ℕ, zero, suc, _+_, _*_, _≤_, _<_}
 use mathlib.Core.Path.{_≡_, refl, sym, ap, _∙_}
-use mathlib.Core.Bool.{Bool, true, false, not}
 use mathlib.Core.List.{List}
 use native.Mathlib.Omega.{arith}
 use native.Mathlib.Decide.{ℕ-discrete}
 use lib.ListN.{length, getD, set, length-set}
 use lib.Seq.{getD-set-same, getD-set-other}
 use Rattle.tables.proofs.Choice.{below-or-at}
-use Rattle.tables.proofs.Tests.{passed, failed}
 use Rattle.placing.specs.Answer.{In, Ascending}
-use Rattle.answers.specs.inner.Plan.{Says}
 use Rattle.answers.specs.inner.Passes.{Marked}
 
--- what a flag says, after a test of its negation
-pub says-passed : (X : Type 0) (b : Bool) → not b ≡ false → Says b X → X
-says-passed X true e h = h
-says-passed X false e h = absurd (passed false e)
-
-pub says-failed : (X : Type 0) (b : Bool) → not b ≡ true → Says b X → X → ⊥
-says-failed X true e h x = failed true e tt
-says-failed X false e h x = h x
-
 -- the first k entries ascend and are below n; what comes next is at least `least`
-pub record Rising (xs : List ℕ) (n k least : ℕ) : Type 0 where
+pub record Ascends (xs : List ℕ) (n k least : ℕ) : Type 0 where
   pub up : (j : ℕ) → suc j < k → getD xs j 0 < getD xs (suc j) 0
   pub small : (j : ℕ) → j < k → getD xs j 0 < n
   pub none : k ≡ 0 → least ≡ 0
   pub last : (j : ℕ) → suc j ≡ k → least ≡ suc (getD xs j 0)
 
-pub rising-start : (xs : List ℕ) (n : ℕ) → Rising xs n 0 0
-rising-start xs n = record { up = λ j l. absurd (omega arith); small = λ j l. absurd (omega arith); none = λ e. refl; last = λ j e. absurd (omega arith) }
+pub ascends-start : (xs : List ℕ) (n : ℕ) → Ascends xs n 0 0
+ascends-start xs n = record { up = λ j l. absurd (omega arith); small = λ j l. absurd (omega arith); none = λ e. refl; last = λ j e. absurd (omega arith) }
 
-pub rising-more : (xs : List ℕ) (n k least : ℕ) → Rising xs n k least → least ≤ getD xs k 0 → getD xs k 0 < n → Rising xs n (suc k) (suc (getD xs k 0))
-rising-more xs n k least r h l = record {
+pub ascends-more : (xs : List ℕ) (n k least : ℕ) → Ascends xs n k least → least ≤ getD xs k 0 → getD xs k 0 < n → Ascends xs n (suc k) (suc (getD xs k 0))
+ascends-more xs n k least r h l = record {
   up = λ j m. below-or-at {u = suc j} {k = k} m (r .up j) (λ e. omega (arith, r .last j e, ap (λ x. getD xs x 0) e));
   small = λ j m. below-or-at m (r .small j) (λ e. omega (arith, ap (λ x. getD xs x 0) e));
   none = λ e. absurd (omega arith);
@@ -41,9 +29,9 @@ rising-more xs n k least r h l = record {
 }
 
 -- an entry below `least` breaks the order
-pub rising-low : (xs : List ℕ) (n k least : ℕ) → Rising xs n k least → getD xs k 0 < least → k < length xs → Ascending xs → ⊥
-rising-low xs n zero least r h l a = omega (arith, r .none refl)
-rising-low xs n (suc k) least r h l a = omega (arith, r .last k refl, a k l)
+pub ascends-low : (xs : List ℕ) (n k least : ℕ) → Ascends xs n k least → getD xs k 0 < least → k < length xs → Ascending xs → ⊥
+ascends-low xs n zero least r h l a = omega (arith, r .none refl)
+ascends-low xs n (suc k) least r h l a = omega (arith, r .last k refl, a k l)
 
 -- the nodes of the first k entries are marked, and nothing else has changed
 pub record MarkedTo (xs before : List ℕ) (k : ℕ) (work : List ℕ) : Type 0 where

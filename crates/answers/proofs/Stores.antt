@@ -41,21 +41,28 @@ module _ (w : List ℕ) (i p fit below seed : ℕ) (late : p < i) (room : 2 * i 
   long₂ : length w₂ ≡ length w
   long₂ = length-set w₁ (2 * p) _ ∙ long₁
 
+  -- past both nodes' entries nothing changes
+  past : (q : ℕ) → 2 * i + 2 ≤ q → getD (handed w i p fit below seed) q 0 ≡ getD w q 0
+  past q l = old₃ q (omega arith) (omega arith) ∙ old₁ q (omega arith) (omega arith)
+
   pub handed-is : Handed w i p fit below seed (handed w i p fit below seed)
   handed-is = record {
     same-length = length-set w₂ (2 * p + 1) _ ∙ long₂;
-    own = old₃ (2 * i) (omega arith) (omega arith) ∙ getD-set-other (set w (2 * i) fit) (2 * i + 1) (2 * i) seed 0 (omega arith) ∙ getD-set-same w (2 * i) fit
-        0 (omega arith);
+    turn = record {
+      own = old₃ (2 * i) (omega arith) (omega arith) ∙ getD-set-other (set w (2 * i) fit) (2 * i + 1) (2 * i) seed 0 (omega arith)
+          ∙ getD-set-same w (2 * i) fit 0 (omega arith);
+      up = getD-set-other w₂ (2 * p + 1) (2 * p) _ 0 (omega arith) ∙ getD-set-same w₁ (2 * p) _ 0 (omega (arith, long₁))
+          ∙ ap (λ x. bitOr x fit) (old₁ (2 * p) (omega arith) (omega arith));
+      up-under = getD-set-same w₂ (2 * p + 1) _ 0 (omega (arith, long₂))
+          ∙ ap (λ x. bitOr (bitOr x fit) below) (getD-set-other w₁ (2 * p) (2 * p + 1) _ 0 (omega arith) ∙ old₁ (2 * p + 1) (omega arith) (omega arith));
+      others = λ k l n. (
+        old₃ (2 * k) (omega arith) (omega arith) ∙ old₁ (2 * k) (omega arith) (omega arith),
+        old₃ (2 * k + 1) (omega arith) (omega arith) ∙ old₁ (2 * k + 1) (omega arith) (omega arith),
+      );
+      later = λ k l. past (2 * k) (omega arith);
+    };
     seeded = old₃ (2 * i + 1) (omega arith) (omega arith) ∙ getD-set-same (set w (2 * i) fit) (2 * i + 1) seed 0 (simp length-set (omega arith));
-    up = getD-set-other w₂ (2 * p + 1) (2 * p) _ 0 (omega arith) ∙ getD-set-same w₁ (2 * p) _ 0 (omega (arith, long₁))
-        ∙ ap (λ x. bitOr x fit) (old₁ (2 * p) (omega arith) (omega arith));
-    up-under = getD-set-same w₂ (2 * p + 1) _ 0 (omega (arith, long₂))
-        ∙ ap (λ x. bitOr (bitOr x fit) below) (getD-set-other w₁ (2 * p) (2 * p + 1) _ 0 (omega arith) ∙ old₁ (2 * p + 1) (omega arith) (omega arith));
-    others = λ k l n. (
-      old₃ (2 * k) (omega arith) (omega arith) ∙ old₁ (2 * k) (omega arith) (omega arith),
-      old₃ (2 * k + 1) (omega arith) (omega arith) ∙ old₁ (2 * k + 1) (omega arith) (omega arith),
-    );
-    later = λ q l. old₃ q (omega arith) (omega arith) ∙ old₁ q (omega arith) (omega arith);
+    later = past;
   }
 
 -- m zeros at the front of a list

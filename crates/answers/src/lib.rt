@@ -8,7 +8,6 @@ ghost use Rattle.placing.specs.Answer.{Begins, In};
 ghost use Rattle.answers.specs.Answers.{Found, FindsAnswers, FindsStarted};
 
 mod passes;
-mod plan;
 
 use tables::Checked;
 use tables::Counted;
@@ -24,9 +23,10 @@ fn find(p: Pattern, parents: &[u16], labels: &[u16], list: &mut [u16], work: &mu
         (now (work .entry)) r (now (list .exit)) (now (work .exit)) ⌝ }
 {
     let seed = p.axis[0] as u64;
-    passes::rise(p, parents, labels, seed, work);
+    passes::fit_nodes(p, parents, labels, seed, work);
+    // node 0 may take step 0 whatever its axis: its second entry is marked as a start
     work[1] = 1;
-    passes::descend(p, parents, labels, work, list)
+    passes::place_nodes(p, parents, work, list)
 }
 
 // The passes of the started form.
@@ -45,9 +45,9 @@ fn find_started(
     ensures { λ r. ⌜ Found (shapeOf p) (documentOf (now (parents .entry)) (now (labels .entry))) (In (now (starts .entry)))
         (now (list .entry)) (now (work .entry)) r (now (list .exit)) (now (work .exit)) ⌝ }
 {
-    passes::rise(p, parents, labels, 0, work);
+    passes::fit_nodes(p, parents, labels, 0, work);
     passes::mark_starts(starts, parents.len(), work);
-    passes::descend(p, parents, labels, work, list)
+    passes::place_nodes(p, parents, work, list)
 }
 
 // The answers of a pattern in a document: counted, and ascending at the front of `list`; the entries of `list` past them stay. Entries 2i and 2i + 1 of `work`

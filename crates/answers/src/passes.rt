@@ -1,18 +1,20 @@
 // The two passes over the nodes (docs/RULES.md, "Answers"): from the last node to the first, which steps fit at each node; then from the first to the last,
 // which steps stand there in a whole placement, and the answers.
 ghost use mathlib.Core.Path.{_≡_};
+ghost use mathlib.Core.Logic.{_↔_};
 ghost use mathlib.Core.List.{List, _++_};
 ghost use Prim.Native.Nat.{ℕ, _+_, _*_, _-_, _≤_, _<_};
-ghost use lib.ListN.{length, getD, drop, set, replicate};
-ghost use Rattle.tables.specs.Bits.{Marks};
-ghost use Rattle.answers.specs.inner.Plan.{Says, fitMask, PlanOf, ChildPlan, PassedOn};
+ghost use lib.Dec.{T};
+ghost use lib.ListN.{length, getD, drop, replicate};
+ghost use Rattle.tables.specs.Bits.{bit, Marks};
 ghost use Rattle.answers.specs.Answers.{Found};
-ghost use Rattle.answers.specs.inner.Passes.{Upward, Handed, Marked, Ready, Downward, Noted, StartsRight};
+ghost use Rattle.answers.specs.inner.Passes.{Handed, Fitted, Marked, Ready, PassedOn, Downward, Noted};
 ghost use Rattle.answers.specs.Working.{PlacedAt};
-ghost use Rattle.placing.specs.Answer.{In};
-ghost use Rattle.tables.specs.Document.{ValidDocument, documentOf};
+ghost use Rattle.placing.specs.Answer.{In, StartList};
+ghost use Rattle.plan.specs.Plans.{TablePlan, DownPlan};
+ghost use Rattle.tables.specs.Document.{Document, nodeCount, ValidDocument, documentOf};
 ghost use Rattle.tables.specs.Pattern.{Shape, shapeOf, ValidPattern};
-use crate::plan;
+use plan::Sets;
 use tables::Pattern;
 
 // Zeros in the first m entries.
@@ -20,10 +22,8 @@ fn clear(work: &mut [u64], m: usize)
     requires { ⌜ m ≤ length (now work) ⌝ }
     ensures { λ _. ⌜ now (work .exit) ≡ replicate m 0 ++ drop m (now (work .entry)) ⌝ }
 {
-    let mut k = 0;
-    while k < m {
+    for k in 0..m {
         work[k] = 0;
-        k += 1;
     }
 }
 
@@ -53,20 +53,16 @@ fn above(allowed: &[u64; 2048], parents: &[u16], i: usize) -> u64
 
 // Is the list strictly ascending, with every entry below n?
 pub(crate) fn starts_right(starts: &[u16], n: usize) -> bool
-    ensures { λ r. ⌜ Says r (StartsRight (now (starts .entry)) n) ⌝ }
+    ensures { λ r. ⌜ ((d : Document) → nodeCount d ≡ n → T r ↔ StartList d (now (starts .entry))) ⌝ }
 {
-    let mut k = 0;
+    let m = starts.len();
     let mut least: usize = 0;
-    while k < starts.len() {
+    for k in 0..m {
         let x = starts[k] as usize;
-        if x < least {
-            return false;
-        }
-        if n <= x {
+        if x < least || n <= x {
             return false;
         }
         least = x + 1;
-        k += 1;
     }
     true
 }
@@ -79,73 +75,19 @@ pub(crate) fn mark_starts(starts: &[u16], n: usize, work: &mut [u64])
     ensures others { λ _. ⌜ ((q : ℕ) → ((i : ℕ) → In (now (starts .entry)) i → q ≡ 2 * i + 1 → ⊥) → getD (now (work .exit)) q 0 ≡ getD (now (work .entry)) q
         0) ⌝ }
 {
-    let mut k = 0;
-    while k < starts.len() {
+    let m = starts.len();
+    for k in 0..m {
         let node = starts[k] as usize;
         work[2 * node + 1] = 1;
-        k += 1;
     }
 }
 
-// The turn of node i, past the first, in the first pass: its parent is p and its label l.
-fn turn_up(
-    low: &[u64; 256],
-    high: &[u64; 256],
-    lack: &[u64; 2048],
-    ch: u64,
-    de: u64,
-    near: u64,
-    forks: u64,
-    l: u16,
-    i: usize,
-    p: usize,
-    seed: u64,
-    work: &mut [u64],
-)
-    requires { ⌜ (p < i) × (i < 2048) × (2 * i + 1 < length (now work)) ⌝ }
-    ensures { λ _. ⌜ Handed (now (work .entry)) i p (fitMask (now (low .entry)) (now (high .entry)) (now (lack .entry)) ch de near forks l
-        (getD (now (work .entry)) (2 * i) 0) (getD (now (work .entry)) (2 * i + 1) 0)) (getD (now (work .entry)) (2 * i + 1) 0) seed (now (work .exit)) ⌝ }
-{
-    let c = work[2 * i];
-    let d = work[2 * i + 1];
-    let fit = plan::fits(low, high, lack, ch, de, near, forks, l, c, d);
-    hand_up(work, i, p, fit, d, seed);
-}
-
-// The turn of node 0.
-fn turn_root(
-    low: &[u64; 256],
-    high: &[u64; 256],
-    lack: &[u64; 2048],
-    ch: u64,
-    de: u64,
-    near: u64,
-    forks: u64,
-    l: u16,
-    seed: u64,
-    work: &mut [u64],
-)
-    requires { ⌜ 1 < length (now work) ⌝ }
-    ensures { λ _. ⌜ now (work .exit) ≡ set (set (now (work .entry)) 0
-        (fitMask (now (low .entry)) (now (high .entry)) (now (lack .entry)) ch de near forks l (getD (now (work .entry)) 0 0) (getD (now (work .entry)) 1 0)))
-        1 seed ⌝ }
-{
-    let c = work[0];
-    let d = work[1];
-    let fit = plan::fits(low, high, lack, ch, de, near, forks, l, c, d);
-    work[0] = fit;
-    work[1] = seed;
-}
-
 // All turns of the first pass, over a list whose entries for the nodes are zero.
-fn lift(
+fn fit_turns(
     low: &[u64; 256],
     high: &[u64; 256],
-    lack: &[u64; 2048],
-    ch: u64,
-    de: u64,
-    near: u64,
-    forks: u64,
+    table: &[u64; 2048],
+    sets: Sets,
     parents: &[u16],
     labels: &[u16],
     seed: u64,
@@ -154,73 +96,51 @@ fn lift(
     requires { ⌜ ValidDocument (documentOf (now parents) (now labels)) ⌝ }
     requires { ⌜ 2 * length (now parents) ≤ length (now work) ⌝ }
     requires { ⌜ ((q : ℕ) → q < 2 * length (now parents) → getD (now work) q 0 ≡ 0) ⌝ }
-    ensures { λ _. ⌜ ((A : Shape) → PlanOf A (now (low .entry)) (now (high .entry)) (now (lack .entry)) ch de near forks → Upward A
-        (documentOf (now (parents .entry)) (now (labels .entry))) seed 0 (now (work .entry)) (now (work .exit))) ⌝ }
+    ensures { λ _. ⌜ ((A : Shape) → TablePlan A (now (low .entry)) (now (high .entry)) (now (table .entry)) sets → Fitted A
+        (documentOf (now (parents .entry)) (now (labels .entry))) seed (now (work .entry)) (now (work .exit))) ⌝ }
 {
     let mut i = parents.len();
     while 1 < i {
         i -= 1;
-        turn_up(
-            low,
-            high,
-            lack,
-            ch,
-            de,
-            near,
-            forks,
-            labels[i],
-            i,
-            parents[i] as usize,
-            seed,
-            work,
-        );
+        let below = work[2 * i + 1];
+        let fit = plan::fits(low, high, table, sets, labels[i], work[2 * i], below);
+        hand_up(work, i, parents[i] as usize, fit, below, seed);
     }
-    turn_root(low, high, lack, ch, de, near, forks, labels[0], seed, work);
+    work[0] = plan::fits(low, high, table, sets, labels[0], work[0], work[1]);
+    work[1] = seed;
 }
 
 // The first pass: which steps fit at each node, with the seed in every second entry.
-pub(crate) fn rise(p: Pattern, parents: &[u16], labels: &[u16], seed: u64, work: &mut [u64])
+pub(crate) fn fit_nodes(
+    p: Pattern,
+    parents: &[u16],
+    labels: &[u16],
+    seed: u64,
+    work: &mut [u64],
+)
     requires { ⌜ ValidPattern p ⌝ }
     requires { ⌜ ValidDocument (documentOf (now parents) (now labels)) ⌝ }
     requires { ⌜ 2 * length (now parents) ≤ length (now work) ⌝ }
-    ensures { λ _. ⌜ Upward (shapeOf p) (documentOf (now (parents .entry)) (now (labels .entry))) seed 0 (now (work .entry))
-        (now (work .exit)) ⌝ }
+    ensures { λ _. ⌜ Fitted (shapeOf p) (documentOf (now (parents .entry)) (now (labels .entry))) seed (now (work .entry)) (now (work .exit)) ⌝ }
 {
     let mut low = [0u64; 256];
     let mut high = [0u64; 256];
-    let mut lack = [0u64; 2048];
     plan::label_steps(p, &mut low, &mut high);
-    plan::parent_table(p, &mut lack);
-    let ch = plan::axis_steps(p, 0);
-    let de = plan::axis_steps(p, 1);
-    let near = plan::near_steps(p);
-    let forks = plan::fork_steps(p);
+    let mut down = [0u64; 64];
+    let mut up = [0u64; 64];
+    let sets = plan::gather(p, &mut down, &mut up);
+    let mut table = [0u64; 2048];
+    plan::spread(&up, p.count, &mut table);
     clear(work, 2 * parents.len());
-    lift(
-        &low,
-        &high,
-        &lack,
-        ch,
-        de,
-        near,
-        forks,
-        parents,
-        labels,
-        seed,
-        work,
-    );
+    fit_turns(&low, &high, &table, sets, parents, labels, seed, work);
 }
 
-// What the children of a node may take, where `whole` stands at the node and `over` was allowed to it. Where no step is a fork, a shift finds the steps that
-// hang on them.
-fn pass_on(kids: &[u64; 2048], near: u64, forks: u64, whole: u64, over: u64, de: u64) -> u64
-    ensures { λ r. ⌜ PassedOn (now (kids .entry)) near forks whole over de r ⌝ }
+// What the children of a node may take, where `whole` stands at the node and `over` was allowed to it.
+fn pass_on(table: &[u64; 2048], sets: Sets, whole: u64, over: u64) -> u64
+    ensures { λ r. ⌜ ((A : Shape) → DownPlan A (now (table .entry)) sets → ((s : ℕ) → bit whole s ≡ 1 → s < A .tree .size) → Marks r
+        (PassedOn A whole over)) ⌝ }
 {
-    let mut led = (whole << 1) & near;
-    if 0 < (whole & forks) {
-        led = plan::look_up(kids, whole);
-    }
-    led | (over & de)
+    plan::led(table, sets, whole) | (over & sets.descendant)
 }
 
 // Node i in the answer list: put at place c and counted where it is an answer.
@@ -236,11 +156,9 @@ fn note(list: &mut [u16], c: usize, i: usize, whole: u64, output: usize) -> usiz
 }
 
 // The turn of node i in the second pass: the steps that stand there in a whole placement.
-fn turn_down(
-    kids: &[u64; 2048],
-    de: u64,
-    near: u64,
-    forks: u64,
+fn place_turn(
+    table: &[u64; 2048],
+    sets: Sets,
     parents: &[u16],
     i: usize,
     work: &mut [u64],
@@ -249,24 +167,22 @@ fn turn_down(
     requires { ⌜ (i < length (now parents)) × (i < 2048) × (2 * i + 1 < length (now work)) × (length (now allowed) ≡ 2048) ⌝ }
     requires { ⌜ (0 < i → getD (now parents) i 0 < i) ⌝ }
     ensures sizes { λ _. ⌜ (length (now (work .exit)) ≡ length (now (work .entry))) × (length (now (allowed .exit)) ≡ length (now (allowed .entry))) ⌝ }
-    ensures turn { λ r. ⌜ ((A : Shape) (labels before : List ℕ) → ValidDocument (documentOf (now (parents .entry)) labels) → ChildPlan A
-        (now (kids .entry)) de near forks → Downward A (documentOf (now (parents .entry)) labels) (Marked before) i before
-        (now (work .entry)) (now (allowed .entry)) → Downward A (documentOf (now (parents .entry)) labels) (Marked before) (i + 1) before
-        (now (work .exit)) (now (allowed .exit)) × Marks r (PlacedAt A (documentOf (now (parents .entry)) labels) (Marked before) i)) ⌝ }
+    ensures turn { λ r. ⌜ ((A : Shape) (labels before : List ℕ) → ValidDocument (documentOf (now (parents .entry)) labels) → DownPlan A
+        (now (table .entry)) sets → Downward A (documentOf (now (parents .entry)) labels) (Marked before) i before (now (work .entry))
+        (now (allowed .entry)) → Downward A (documentOf (now (parents .entry)) labels) (Marked before) (i + 1) before (now (work .exit))
+        (now (allowed .exit)) × Marks r (PlacedAt A (documentOf (now (parents .entry)) labels) (Marked before) i)) ⌝ }
 {
     let over = above(allowed, parents, i);
     let whole = work[2 * i] & (over | work[2 * i + 1]);
     work[2 * i + 1] = whole;
-    allowed[i] = pass_on(kids, near, forks, whole, over, de);
+    allowed[i] = pass_on(table, sets, whole, over);
     whole
 }
 
-// All turns of the second pass, with the tables of the pattern whose output step is `output`.
-fn lower(
-    kids: &[u64; 2048],
-    de: u64,
-    near: u64,
-    forks: u64,
+// All turns of the second pass, with the table of child steps of the pattern whose output step is `output`.
+fn place_turns(
+    table: &[u64; 2048],
+    sets: Sets,
     output: usize,
     parents: &[u16],
     work: &mut [u64],
@@ -274,43 +190,34 @@ fn lower(
 ) -> usize
     requires { ⌜ (output < 64) × (length (now parents) ≤ 2048) × (2 * length (now parents) ≤ length (now work)) × (length (now parents) ≤ length (now list)) ⌝ }
     requires { ⌜ ((i : ℕ) → 0 < i → i < length (now parents) → getD (now parents) i 0 < i) ⌝ }
-    ensures { λ r. ⌜ ((A : Shape) (labels : List ℕ) → ValidDocument (documentOf (now (parents .entry)) labels) → ChildPlan A
-        (now (kids .entry)) de near forks → A .output ≡ output → Ready A (documentOf (now (parents .entry)) labels) (now (work .entry)) →
-        Found A (documentOf (now (parents .entry)) labels) (Marked (now (work .entry))) (now (list .entry)) (now (work .entry)) r
+    ensures { λ r. ⌜ ((A : Shape) (labels : List ℕ) → ValidDocument (documentOf (now (parents .entry)) labels) → DownPlan A (now (table .entry)) sets →
+        A .output ≡ output → Ready A (documentOf (now (parents .entry)) labels) (now (work .entry)) → Found A
+        (documentOf (now (parents .entry)) labels) (Marked (now (work .entry))) (now (list .entry)) (now (work .entry)) r
         (now (list .exit)) (now (work .exit))) ⌝ }
 {
     let mut allowed = [0u64; 2048];
     let n = parents.len();
     let mut c = 0;
-    let mut i = 0;
-    while i < n {
-        let whole = turn_down(kids, de, near, forks, parents, i, work, &mut allowed);
+    for i in 0..n {
+        let whole = place_turn(table, sets, parents, i, work, &mut allowed);
         c = note(list, c, i, whole, output);
-        i += 1;
     }
     c
 }
 
 // The second pass: which steps stand at each node in a whole placement, and the answers. A second entry of 1 marks a start node.
-pub(crate) fn descend(
-    p: Pattern,
-    parents: &[u16],
-    labels: &[u16],
-    work: &mut [u64],
-    list: &mut [u16],
-) -> usize
+pub(crate) fn place_nodes(p: Pattern, parents: &[u16], work: &mut [u64], list: &mut [u16]) -> usize
     requires { ⌜ ValidPattern p ⌝ }
-    requires { ⌜ ValidDocument (documentOf (now parents) (now labels)) ⌝ }
-    requires { ⌜ length (now parents) ≤ length (now list) ⌝ }
-    requires { ⌜ Ready (shapeOf p) (documentOf (now parents) (now labels)) (now work) ⌝ }
-    ensures { λ r. ⌜ Found (shapeOf p) (documentOf (now (parents .entry)) (now (labels .entry))) (Marked (now (work .entry)))
-        (now (list .entry)) (now (work .entry)) r (now (list .exit)) (now (work .exit)) ⌝ }
+    requires { ⌜ (length (now parents) ≤ 2048) × (2 * length (now parents) ≤ length (now work)) × (length (now parents) ≤ length (now list)) ⌝ }
+    requires { ⌜ ((i : ℕ) → 0 < i → i < length (now parents) → getD (now parents) i 0 < i) ⌝ }
+    ensures { λ r. ⌜ ((labels : List ℕ) → ValidDocument (documentOf (now (parents .entry)) labels) → Ready (shapeOf p) (documentOf (now (parents .entry)) labels)
+        (now (work .entry)) → Found (shapeOf p) (documentOf (now (parents .entry)) labels) (Marked (now (work .entry))) (now (list .entry))
+        (now (work .entry)) r (now (list .exit)) (now (work .exit))) ⌝ }
 {
-    let mut kids = [0u64; 2048];
-    plan::child_table(p, &mut kids);
-    let de = plan::axis_steps(p, 1);
-    let near = plan::near_steps(p);
-    let forks = plan::fork_steps(p);
-    let output = p.output.0 as usize;
-    lower(&kids, de, near, forks, output, parents, work, list)
+    let mut down = [0u64; 64];
+    let mut up = [0u64; 64];
+    let sets = plan::gather(p, &mut down, &mut up);
+    let mut table = [0u64; 2048];
+    plan::spread(&down, p.count, &mut table);
+    place_turns(&table, sets, p.output.0 as usize, parents, work, list)
 }

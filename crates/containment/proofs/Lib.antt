@@ -9,14 +9,11 @@ pub mod FreshLabel
 pub mod Contained
 pub mod Deciding
 pub mod Unique
-pub mod Planned
-pub mod Masks
 pub mod StepFits
-pub mod Lifted
 pub mod Images
 pub mod Greedily
 pub mod Verdicts
-pub mod Writing
-pub mod Marked
+pub mod WitnessSteps
+pub mod UsedLabels
 pub mod Answering
 pub mod Called

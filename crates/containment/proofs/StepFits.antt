@@ -1,17 +1,26 @@
--- Which steps of B fit at a step of A, from those that fit at its children and below: one turn of the recursion that decides mappings. Assumes nothing.
-use Prim.Native.Nat.{ℕ, zero, suc, _<_}
+-- Which steps of B fit at each step of A: the upward pass over rows with A's steps as rows, in two lists. Assumes nothing.
+use Prim.Native.Nat.{ℕ, suc, _^_, _<_}
 use mathlib.Core.Path.{_≡_, refl, sym, ap, _∙_, subst}
 use mathlib.Core.Logic.{_↔_}
-use mathlib.Core.Bool.{Bool}
+use mathlib.Core.Bool.{Bool, true, false}
+use mathlib.Core.List.{List}
+use native.Mathlib.Omega.{arith}
+use native.Mathlib.Decide.{ℕ-discrete}
+use lib.Bits.{bitOr}
 use lib.Dec.{T}
-use Rattle.tables.specs.Bits.{bit, Marks}
-use Rattle.tables.specs.Tree.{Child, Below, From}
+use lib.ListN.{length, getD, set, length-set}
+use lib.Seq.{getD-set-same, getD-set-other}
+use Rattle.tables.specs.Bits.{Marks}
+use Rattle.tables.specs.Tree.{From}
 use Rattle.tables.specs.Pattern.{Shape, rowsOf, ValidShape}
-use Rattle.tables.proofs.Marks.{marks-to}
+use Rattle.tables.proofs.Marks.{marks-to, marks-one, marks-without}
 use Rattle.tables.proofs.Rules.{shape-ordered}
-use Rattle.placing.specs.Placement.{Goes}
-use Rattle.placing.proofs.Fit.{Able, able, able-ok, able-next, fit-able, able-fit}
-use Rattle.containment.specs.inner.Feasible.{maskFor, FitsBy, FitsIn}
+use Rattle.placing.specs.Placement.{LabelFits}
+use Rattle.placing.proofs.Fit.{Able, fit-able, able-fit}
+use Rattle.plan.specs.Steps.{without, FitsBy}
+use Rattle.plan.specs.Rising.{entries, Turned}
+use Rattle.plan.proofs.Rising.{Risen, risen-fits}
+use Rattle.containment.specs.inner.Feasible.{RightIn, FitsIn, FitTable}
 use Rattle.containment.proofs.Deciding.{mapTask}
 
 module _ (B A : Shape) (vb : ValidShape B) where
@@ -33,36 +42,47 @@ module _ (B A : Shape) (vb : ValidShape B) where
         output = λ w. p .1 .ok (B .output) w .1 refl;
       }
 
-  -- c has the steps that fit at a child of step s along a child edge, e those that fit at a step below s
-  module _ (s c e : ℕ) (last : Bool) (l : s < A .tree .size) (out : T last ↔ (s ≡ A .output))
-      (mc : Marks c (λ t. (j : ℕ) × Child (A .tree) s j × (A .axis j ≡ 0) × FitsIn B A j t))
-      (me : Marks e (λ t. (j : ℕ) × Below (A .tree) s j × FitsIn B A j t)) where
-    -- where a child step goes
-    next : (u a : ℕ) → bit (maskFor a c e) u ≡ 1 → (j : ℕ) × Goes (rowsOf A) a s j × Able (mapTask B A) u j
-    next u zero w = let r = mc .only u w in (r .0, (r .1, r .2), fits-able (r .0) u (r .3))
-    next u (suc a) w = let r = me .only u w in (r .0, r .1, fits-able (r .0) u (r .2))
+  -- both together
+  can : (s t : ℕ) → ((t < B .tree .size) × Able (mapTask B A) t s) ↔ FitsIn B A s t
+  can s t = (λ q. able-fits s t (q .0) (q .1), λ h. (h .here, fits-able s t h))
 
-    by-fits : (t : ℕ) → FitsBy B (A .label s) last c e t → FitsIn B A s t
-    by-fits t h =
-        able-fits s t (h .0)
-        (able (record { here = l; fits = record { same = sym (h .1) } }, λ o. out .0 (h .2 o)) (λ u k. next u (B .axis u) (h .3 u k) .0)
-        (λ u k. next u (B .axis u) (h .3 u k) .1) (λ u k. next u (B .axis u) (h .3 u k) .2))
+  -- the steps found from the entries of a step whose children have had their turn are those that fit
+  pub step-fits : (va : ValidShape A) (s : ℕ) (last : Bool) (fit under : ℕ → ℕ) → s < A .tree .size → T last ↔ (s ≡ A .output)
+      → Risen (rowsOf A) (FitsIn B A) (suc s) fit under → (x : ℕ) → Marks x (FitsBy B (RightIn B (A .label s) last) (fit s) (under s)) → Marks x (FitsIn B A s)
+  step-fits va s last fit under l out u = risen-fits B (rowsOf A) (mapTask B A .ok) (FitsIn B A) (shape-ordered va) can s (RightIn B (A .label s) last)
+      (λ t. (λ q. (record { here = l; fits = q .0 }, λ o. out .0 (q .1 o)), λ q. (q .0 .fits, λ o. out .1 (q .1 o)))) fit under u
 
-    has : (u : ℕ) → u < B .tree .size → (a j : ℕ) → Goes (rowsOf A) a s j → Able (mapTask B A) u j → bit (maskFor a c e) u ≡ 1
-    has u m zero j g a = mc .put u (j, g .0, g .1, able-fits j u m a)
-    has u m (suc n) j g a = me .put u (j, g, able-fits j u m a)
+  -- after the last turn, step 0's
+  pub fit-table : (x : ℕ) (fit under : List ℕ) → Risen (rowsOf A) (FitsIn B A) 1 (entries fit) (entries under) → Marks x (FitsIn B A 0) → 0 < length fit
+      → FitTable B A (set fit 0 x)
+  fit-table x fit under u m h s l = elim (ℕ-discrete s 0) [
+    | yes e ↦ subst (λ (y : ℕ). Marks (getD (set fit 0 x) y 0) (FitsIn B A y)) (sym e) (rw (getD-set-same fit 0 x 0 h) m)
+    | no n ↦ rw (getD-set-other fit 0 s x 0 n) (u .fits s (omega arith) l)
+  ]
 
-    fits-by : (t : ℕ) → FitsIn B A s t → FitsBy B (A .label s) last c e t
-    fits-by t h =
-        let a = fits-able s t h in
-        let o = able-ok (mapTask B A) a in (
-          h .here,
-          sym (o .0 .fits .same),
-          λ z. out .1 (o .1 z),
-          λ u k. let n = able-next (mapTask B A) a u k in has u (k .here) (B .axis u) (n .0) (n .1)
-              (n .2),
-        )
+-- the output step is taken out where it may not go
+module _ (B : Shape) (l c d x : ℕ) (m : Marks x (FitsBy B (λ t. LabelFits (B .label t) l) c d)) where
+  pub fits-last : (last : Bool) → last ≡ true → Marks x (FitsBy B (RightIn B l last) c d)
+  fits-last last e = marks-to x (FitsBy B (λ t. LabelFits (B .label t) l) c d) (FitsBy B (RightIn B l last) c d)
+      (λ t q. (q .0, (q .1, λ o. rw e tt), q .2)) (λ t q. (q .0, q .1 .0, q .2)) m
 
-    -- the steps found from the masks are those that fit
-    pub step-fits : (x : ℕ) → Marks x (FitsBy B (A .label s) last c e) → Marks x (FitsIn B A s)
-    step-fits x m = marks-to x (FitsBy B (A .label s) last c e) (FitsIn B A s) by-fits fits-by m
+  pub fits-other : (last : Bool) → last ≡ false → Marks (without x (2 ^ B .output)) (FitsBy B (RightIn B l last) c d)
+  fits-other last e = marks-to (without x (2 ^ B .output)) (λ t. FitsBy B (λ t. LabelFits (B .label t) l) c d t × (t ≡ B .output → ⊥))
+      (FitsBy B (RightIn B l last) c d)
+      (λ t q. (q .0 .0, (q .0 .1, λ o. absurd (q .1 o)), q .0 .2))
+      (λ t q. ((q .0, q .1 .0, q .2), λ o. (rw e at (q .1 .1 o))))
+      (marks-without x (2 ^ B .output) (FitsBy B (λ t. LabelFits (B .label t) l) c d) (λ t. t ≡ B .output) m (marks-one (B .output)))
+
+-- the stores of one turn
+pub turned-lists : (i p f g : ℕ) (fit under : List ℕ) → p < i → i < length fit → i < length under → Turned i p f g (getD under i 0) (entries fit) (entries under)
+    (entries (set (set fit i f) p (bitOr (getD (set fit i f) p 0) g))) (entries (set under p (bitOr (bitOr (getD under p 0) f) (getD under i 0))))
+turned-lists i p f g fit under l a b = record {
+  own = getD-set-other (set fit i f) p i _ 0 (omega arith) ∙ getD-set-same fit i f 0 a;
+  up = getD-set-same (set fit i f) p _ 0 (simp length-set (omega arith)) ∙ ap (λ x. bitOr x g) (getD-set-other fit i p f 0 (omega arith));
+  up-under = getD-set-same under p _ 0 (omega arith);
+  others = λ k m n. (old k (omega arith) n, getD-set-other under p k _ 0 n);
+  later = λ k m. old k (omega arith) (omega arith);
+}
+  where
+    old : (q : ℕ) → (q ≡ i → ⊥) → (q ≡ p → ⊥) → getD (set (set fit i f) p (bitOr (getD (set fit i f) p 0) g)) q 0 ≡ getD fit q 0
+    old q m n = getD-set-other (set fit i f) p q _ 0 n ∙ getD-set-other fit i q f 0 m

@@ -19,8 +19,8 @@ use Rattle.containment.specs.Mapping.{BeginsIn, Maps, Contained}
 use Rattle.containment.specs.Containment.{mappingArray, Within}
 use Rattle.containment.specs.Equality.{pairChecks}
 use Rattle.containment.specs.inner.Verdict.{Decides}
-use Rattle.containment.specs.declared.Verdict.the-variants as verdict
-use Rattle.containment.specs.declared.VerdictAnswer.{VerdictAnswer}
+use Rattle.containment.specs.declared.comparing.Verdict.the-variants as verdict
+use Rattle.containment.specs.declared.comparing.VerdictAnswer.{VerdictAnswer}
 use Rattle.containment.specs.inner.Feasible.{FitsIn, FitTable, Picks, Chosen}
 use Rattle.containment.proofs.Contained.{contained-iff}
 use Rattle.containment.proofs.Images.{pick-to, pick-none, pick-found, pick-below}

@@ -6,9 +6,8 @@ ghost use lib.Dec.{T};
 ghost use lib.ListN.{getD};
 ghost use Rattle.tables.specs.Bits.{bit};
 ghost use Rattle.tables.specs.Pattern.{Shape, shapeOf, ValidPattern};
-ghost use Rattle.containment.specs.inner.Feasible.{FitsIn, FitTable, Picks, Listed, ImageAt, Chosen};
+ghost use Rattle.containment.specs.inner.Feasible.{FitsIn, FitTable, Picks, StepLists, ImageAt, Chosen};
 ghost use Rattle.containment.specs.Mapping.{BeginsIn};
-use crate::fitting;
 use tables::Pattern;
 use tables::StepNo;
 
@@ -32,12 +31,10 @@ pub(crate) fn first_image(n: usize, own: u8, axis: u8, fit: &[u64; 64]) -> usize
     ensures { λ r. ⌜ Picks (λ j. ((j < n) × (axis ≡ 0 → (j ≡ 0) × (own ≡ 0))) × (bit (getD (now (fit .entry)) j 0) 0 ≡ 1)) r ⌝ }
 {
     let m = first_steps(n, own, axis);
-    let mut s = 0;
-    while s < m {
-        if fitting::has_bit(fit[s], 0) {
+    for s in 0..m {
+        if plan::has_bit(fit[s], 0) {
             return s;
         }
-        s += 1;
     }
     64
 }
@@ -47,7 +44,7 @@ fn takes(x: u64, t: usize, axis: u8, q: usize, p: usize, own: u8) -> bool
     requires { ⌜ t < 64 ⌝ }
     ensures { λ r. ⌜ T r ↔ ((axis ≡ 0 → (p ≡ q) × (own ≡ 0)) × (bit x t ≡ 1)) ⌝ }
 {
-    if !fitting::has_bit(x, t) {
+    if !plan::has_bit(x, t) {
         return false;
     }
     if axis != 0 {
@@ -72,16 +69,14 @@ fn next_image(
 ) -> usize
     requires { ⌜ (n ≤ 64) × (t < 64) × (q < n) ⌝ }
     requires { ⌜ ((j : ℕ) → 0 < j → j < n → getD (now parents) j 0 < 64) ⌝ }
-    ensures { λ r. ⌜ ((A : Shape) → Listed A (now (parents .entry)) (now (axes .entry)) n → ((j : ℕ) × ImageAt A (now (fit .entry)) t axis q j) → Picks
+    ensures { λ r. ⌜ ((A : Shape) → StepLists A (now (parents .entry)) (now (axes .entry)) n → ((j : ℕ) × ImageAt A (now (fit .entry)) t axis q j) → Picks
         (ImageAt A (now (fit .entry)) t axis q) r) ⌝ }
 {
-    let mut s = q + 1;
-    while s < n {
+    for s in q + 1..n {
         let p = parents[s] as usize;
         if takes(fit[s], t, axis, q, p, axes[s]) {
             return s;
         }
-        s += 1;
     }
     64
 }
@@ -98,13 +93,11 @@ pub(crate) fn choose(a: Pattern, b: Pattern, fit: &[u64; 64], first: usize) -> [
     let mut mapping = [StepNo(0); 64];
     mapping[0] = StepNo(first as u8);
     let n = b.count;
-    let mut t = 1;
-    while t < n {
+    for t in 1..n {
         let o = b.parent[t] as usize;
         let q = mapping[o].0 as usize;
         let s = next_image(&parents, &axes, a.count, fit, t, b.axis[t], q);
         mapping[t] = StepNo(s as u8);
-        t += 1;
     }
     mapping
 }

@@ -1,19 +1,18 @@
 // Containment of one pattern in another (docs/RULES.md, "Containment").
 ghost use Prim.Native.Nat.{ℕ, _≤_};
 ghost use mathlib.Core.Path.{_≡_};
-ghost use mathlib.Core.Logic.{_⊎_, _↔_};
+ghost use mathlib.Core.Logic.{_⊎_};
 ghost use mathlib.Core.Bool.{false};
 ghost use lib.Dec.{T};
 ghost use lib.ListN.{getD};
-ghost use Rattle.tables.specs.Pattern.{shapeOf, ValidPattern};
-ghost use Rattle.containment.specs.Mapping.{Contained};
+ghost use Rattle.tables.specs.Pattern.{shapeOf};
 ghost use Rattle.containment.specs.Containment.{mappingArray, DecidesContainment};
 ghost use Rattle.containment.specs.Equality.{DecidesEquality};
-ghost use Rattle.containment.specs.inner.Verdict.{Decides};
 ghost use Rattle.containment.specs.Witness.{Stands};
 ghost use Rattle.containment.specs.inner.Feasible.{FreshOr0};
 
 mod choosing;
+mod comparing;
 mod fitting;
 mod witness;
 
@@ -36,19 +35,6 @@ pub struct ContainmentAnswer {
     pub mapping: [StepNo; 64],
 }
 
-// Contained, apart or refused: the verdict alone, with no witness.
-enum Verdict {
-    Contained,
-    Apart,
-    Refused(Refusal),
-}
-
-// The verdict, and beside it the mapping, all zero where the verdict is not `Contained`.
-struct VerdictAnswer {
-    answer: Verdict,
-    mapping: [StepNo; 64],
-}
-
 // Whether two patterns have the same answers on every document, or the refusal.
 pub enum Equality {
     Equal,
@@ -62,13 +48,11 @@ fn mark_labels(a: Pattern, used: &mut [bool; 256])
     ensures { λ _. ⌜ ((k : ℕ) → T (getD (now (used .exit)) k false) → T (getD (now (used .entry)) k false) ⊎ Stands (shapeOf a) k) ⌝ }
 {
     let n = a.count;
-    let mut s = 0;
-    while s < n {
+    for s in 0..n {
         let l = a.label[s] as usize;
         if l < 256 {
             used[l] = true;
         }
-        s += 1;
     }
 }
 
@@ -112,16 +96,6 @@ fn fresh(a: Pattern, b: Pattern) -> u16
     found
 }
 
-// Is a contained in b, where both obey the rules: does b map into a?
-fn within(a: Pattern, b: Pattern) -> bool
-    requires { ⌜ ValidPattern a × ValidPattern b ⌝ }
-    ensures { λ r. ⌜ T r ↔ Contained (shapeOf a) (shapeOf b) ⌝ }
-{
-    let mut fit = [0u64; 64];
-    fitting::lift(a, b, &mut fit);
-    choosing::first_image(a.count, a.axis[0], b.axis[0], &fit) != 64
-}
-
 // Do a and b have the same answers on every document? Equal, where each is contained in the other; or different. Refused by BadPattern if a breaks the rules,
 // then if b does.
 pub fn equal(a: Pattern, b: Pattern) -> Equality
@@ -133,59 +107,17 @@ pub fn equal(a: Pattern, b: Pattern) -> Equality
     if let Checked::Refused(r) = tables::check_pattern(b) {
         return Equality::Refused(r);
     }
-    if !within(a, b) {
+    if !comparing::within(a, b) {
         return Equality::Different;
     }
-    if !within(b, a) {
+    if !comparing::within(b, a) {
         return Equality::Different;
     }
     Equality::Equal
 }
 
-// The verdict with no mapping.
-fn unmapped(answer: Verdict) -> VerdictAnswer
-    ensures { λ r. ⌜ (r .answer ≡ answer) × (r .mapping ≡ mappingArray (λ t. 0) 0) ⌝ }
-{
-    VerdictAnswer {
-        answer: answer,
-        mapping: [StepNo(0); 64],
-    }
-}
-
-// The verdict on two patterns that obey the rules: contained exactly where b maps into a.
-fn compare(a: Pattern, b: Pattern) -> VerdictAnswer
-    requires { ⌜ ValidPattern a × ValidPattern b ⌝ }
-    ensures { λ r. ⌜ Decides a b r ⌝ }
-{
-    let mut fit = [0u64; 64];
-    fitting::lift(a, b, &mut fit);
-    let first = choosing::first_image(a.count, a.axis[0], b.axis[0], &fit);
-    if first == 64 {
-        return unmapped(Verdict::Apart);
-    }
-    let mapping = choosing::choose(a, b, &fit, first);
-    VerdictAnswer {
-        answer: Verdict::Contained,
-        mapping: mapping,
-    }
-}
-
-// Is a contained in b: is each answer of a, on every document, an answer of b? Contained, with the smallest mapping of b into a; or apart, where b does not
-// map into a. Refused by BadPattern if a breaks the rules, then if b does.
-fn decide(a: Pattern, b: Pattern) -> VerdictAnswer
-    ensures { λ r. ⌜ Decides a b r ⌝ }
-{
-    if let Checked::Refused(r) = tables::check_pattern(a) {
-        return unmapped(Verdict::Refused(r));
-    }
-    if let Checked::Refused(r) = tables::check_pattern(b) {
-        return unmapped(Verdict::Refused(r));
-    }
-    compare(a, b)
-}
-
 // The answer with no mapping.
-fn plain(answer: Containment) -> ContainmentAnswer
+fn beside(answer: Containment) -> ContainmentAnswer
     ensures { λ r. ⌜ (r .answer ≡ answer) × (r .mapping ≡ mappingArray (λ t. 0) 0) ⌝ }
 {
     ContainmentAnswer {
@@ -206,23 +138,23 @@ pub fn contains(
 ) -> ContainmentAnswer
     ensures { λ r. ⌜ DecidesContainment a b (now (parents .entry)) (now (labels .entry)) r (now (parents .exit)) (now (labels .exit)) ⌝ }
 {
-    let v = decide(a, b);
+    let v = comparing::decide(a, b);
     let answer = v.answer;
-    if let Verdict::Refused(r) = answer {
-        return plain(Containment::Refused(r));
+    if let comparing::Verdict::Refused(r) = answer {
+        return beside(Containment::Refused(r));
     }
     let l = fresh(a, b);
     if l == 0 {
-        return plain(Containment::Refused(Refusal::NoLabel));
+        return beside(Containment::Refused(Refusal::NoLabel));
     }
     let m = a.count + witness::descendants_before(a, a.count);
     if parents.len() < m {
-        return plain(Containment::Refused(Refusal::Room));
+        return beside(Containment::Refused(Refusal::Room));
     }
     if labels.len() < m {
-        return plain(Containment::Refused(Refusal::Room));
+        return beside(Containment::Refused(Refusal::Room));
     }
-    if let Verdict::Contained = answer {
+    if let comparing::Verdict::Contained = answer {
         let mapping = v.mapping;
         return ContainmentAnswer {
             answer: Containment::Contained,
@@ -231,7 +163,7 @@ pub fn contains(
     }
     let nodes = witness::write_witness(a, l, parents, labels);
     let node = witness::own_node(a, a.output.0 as usize) as u16;
-    plain(Containment::Apart {
+    beside(Containment::Apart {
         nodes: nodes,
         answer: NodeNo(node),
     })

@@ -14,10 +14,8 @@ pub(crate) fn descendants_before(a: Pattern, k: usize) -> usize
     ensures { λ r. ⌜ r ≡ descendants (shapeOf a) k ⌝ }
 {
     let mut d = 0;
-    let mut s = 0;
-    while s < k {
+    for s in 0..k {
         d += a.axis[s] as usize;
-        s += 1;
     }
     d
 }
@@ -75,12 +73,10 @@ pub(crate) fn write_witness(a: Pattern, l: u16, parents: &mut [u16], labels: &mu
     let n = a.count;
     let mut nodes = [0u16; 64];
     let mut m = 0;
-    let mut s = 0;
-    while s < n {
+    for s in 0..n {
         let hook = hook_of(&nodes, a.parent[s], s);
         m = write_step(a.axis[s], hook, a.label[s], l, m, parents, labels);
         nodes[s] = (m - 1) as u16;
-        s += 1;
     }
     m
 }

@@ -1,18 +1,29 @@
 -- Both passes, with the start nodes of the plain form marked between them. Assumes nothing.
+use denote.Ref.{now}
 use Rattle.tables.specs.Pattern.{shapeOf}
+use Rattle.tables.proofs.Rules.{document-ordered}
+use Rattle.tables.proofs.Trees.{parent-lt}
 use Rattle.placing.specs.Answer.{Begins}
-use Rattle.answers.proofs.Listed.{found-first}
+use Rattle.answers.proofs.AnswerList.{found-first}
 use Rattle.answers.proofs.Finding.{found-before, plain-ready, plain-first, plain-length, plain-rest}
 use borrow.Author.Needs.{needs}
 use Rattle.answers.proofs.find.Statement.{statement}
 use Rattle.answers.proofs.find.Tie as tie
 
-descend-requires : tie.Need-descend-requires
-descend-requires c κs =
+place-nodes-requires : tie.Need-place-nodes-requires
+place-nodes-requires c κs =
     let s = c .before .before .before .before .before .before .before .before .before .before .before in
-    let v = s .pre .1 .0 in (
+    let v = s .pre .1 .0 in
+    let u = c .before .before .before .before .fit-nodes .ensures in (
       s .pre .0,
+<<<<<<< HEAD
       (v, (s .pre .1 .1 .0, plain-ready (shapeOf (s .args .t1)) _ (s .pre .0) v _ _ (s .pre .1 .1 .1) (c .before .before .before .before .rise .ensures))),
+=======
+      (
+        (v .few, plain-ready (shapeOf (s .args .t1)) _ (s .pre .0) v _ _ (s .pre .1 .1 .1) u .room, s .pre .1 .1 .0),
+        λ i p l. parent-lt (document-ordered v) i p l,
+      ),
+>>>>>>> plan
     )
 
 returns : tie.Need-returns
@@ -20,14 +31,15 @@ returns c =
     let s = c .before .before .before .before .before .before .before .before .before .before .before .before .before .before .before .before in
     let v = s .pre .1 .0 in
     let A = shapeOf (s .args .t1) in
-    let u = c .before .before .before .before .before .before .before .before .before .rise .ensures in
-    found-first A _ _ (Begins A) (s .pre .0) (plain-first A _ (s .pre .0) v _ _ (s .pre .1 .1 .1) u) _ _ _ _ _
-    (found-before A _ _ _ _ _ _ _ _ (plain-length A _ (s .pre .0) v _ _ (s .pre .1 .1 .1) u) (plain-rest A _ (s .pre .0) v _ _ (s .pre .1 .1 .1) u)
-    (c .before .before .before .before .descend .ensures))
+    let room = s .pre .1 .1 .1 in
+    let u = c .before .before .before .before .before .before .before .before .before .fit-nodes .ensures in
+    found-first A _ _ (Begins A) (s .pre .0) (plain-first A _ (s .pre .0) v _ _ room u) _ _ _ _ _
+    (found-before A _ _ _ _ _ _ _ _ (plain-length A _ (s .pre .0) v _ _ room u) (plain-rest A _ (s .pre .0) v _ _ room u)
+    (c .before .before .before .before .place-nodes .ensures (now (s .args .labels)) v (plain-ready A _ (s .pre .0) v _ _ room u)))
 
 same-length-2 : tie.Need-same-length-2
 same-length-2 c = returns c .working .same-length
 
 pub find-spec : {M : Type 1} → statement M
-find-spec = tie.close (tie.spec (λ c. search needs) (λ c. search needs) (λ c κs. search needs) (λ c. search needs) descend-requires
+find-spec = tie.close (tie.spec (λ c. search needs) (λ c. search needs) (λ c κs. search needs) (λ c. search needs) place-nodes-requires
     (λ c. search needs) same-length-2 returns)

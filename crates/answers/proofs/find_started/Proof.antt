@@ -1,44 +1,47 @@
 -- Both passes, with the start list's nodes marked between them. Assumes nothing.
 use denote.Ref.{now}
 use mathlib.Core.Path.{_∙_}
+use Rattle.tables.specs.Document.{documentOf}
 use Rattle.tables.specs.Pattern.{shapeOf}
+use Rattle.tables.proofs.Rules.{document-ordered}
+use Rattle.tables.proofs.Trees.{parent-lt}
 use Rattle.placing.specs.Answer.{In}
-use Rattle.answers.proofs.Listed.{found-first}
+use Rattle.answers.specs.inner.Passes.{Ready}
+use Rattle.answers.proofs.AnswerList.{found-first}
 use Rattle.answers.proofs.Finding.{found-before, started-ready, started-first, started-rest}
 use borrow.Author.Needs.{needs}
 use Rattle.answers.proofs.find_started.Statement.{statement}
 use Rattle.answers.proofs.find_started.Tie as tie
 
-descend-requires : tie.Need-descend-requires
-descend-requires c κs =
+-- the second pass starts from a list that is ready
+ready : (x : tie.After-mark-starts) → Ready (shapeOf (x .before .before .before .before .before .before .before .before .before .before .before .args .p)) (documentOf (now (x .before .before .before .before .before .before .before .before .before .before .before .args .parents))
+    (now (x .before .before .before .before .before .before .before .before .before .before .before .args .labels))) (x .mark-starts .last .1 .1 .0)
+ready x =
+    let s = x .before .before .before .before .before .before .before .before .before .before .before in
+    let m = x .mark-starts in
+    started-ready (shapeOf (s .args .p)) _ (s .pre .0) (s .pre .1 .0) _ _ (s .pre .1 .1 .1 .1) (x .before .before .before .before .fit-nodes .ensures) (now (s .args .starts))
+    (m .last .1 .1 .0) (s .pre .1 .1 .0) (m .kept .1 .1 .0) (m .ensures .0) (m .ensures .1)
+
+place-nodes-requires : tie.Need-place-nodes-requires
+place-nodes-requires c κs =
     let s = c .before .before .before .before .before .before .before .before .before .before .before .before .before .before .before in
     let v = s .pre .1 .0 in
-    let m = c .before .before .before .before .mark-starts in (
-      s .pre .0,
-      (
-        v,
-        (
-          s .pre .1 .1 .1 .0,
-          started-ready (shapeOf (s .args .p)) _ (s .pre .0) v _ _ (s .pre .1 .1 .1 .1)
-              (c .before .before .before .before .before .before .before .before .rise .ensures) (now (s .args .starts)) (m .last .1 .1 .0) (s .pre .1 .1 .0)
-              (m .kept .1 .1 .0) (m .ensures .0) (m .ensures .1),
-        ),
-      ),
-    )
+    (s .pre .0, ((v .few, ready (c .before .before .before .before) .room, s .pre .1 .1 .1 .0), λ i p l. parent-lt (document-ordered v) i p l))
 
 returns : tie.Need-returns
 returns c =
-    let s = c .before .before .before .before .before .before .before .before .before .before .before .before .before .before .before .before .before .before
-    .before .before in
+    let x = c .before .before .before .before .before .before .before .before .before in
+    let s = x .before .before .before .before .before .before .before .before .before .before .before in
     let v = s .pre .1 .0 in
     let A = shapeOf (s .args .p) in
-    let u = c .before .before .before .before .before .before .before .before .before .before .before .before .before .rise .ensures in
-    let m = c .before .before .before .before .before .before .before .before .before .mark-starts in
+    let u = x .before .before .before .before .fit-nodes .ensures in
+    let m = x .mark-starts in
     found-first A _ _ (In (now (s .args .starts))) (s .pre .0) (started-first A _ (s .pre .0) v _ _ (s .pre .1 .1 .1 .1) u (now (s .args .starts))
     (m .last .1 .1 .0) (s .pre .1 .1 .0) (m .kept .1 .1 .0) (m .ensures .0) (m .ensures .1)) _ _ _ _ _
     (found-before A _ _ _ _ _ _ _ _ (m .kept .1 .1 .0 ∙ u .same-length)
     (started-rest A _ (s .pre .0) v _ _ (s .pre .1 .1 .1 .1) u (now (s .args .starts)) (m .last .1 .1 .0) (s .pre .1 .1 .0) (m .kept .1 .1 .0)
-    (m .ensures .0) (m .ensures .1)) (c .before .before .before .before .descend .ensures))
+    (m .ensures .0) (m .ensures .1)) (c .before .before .before .before .place-nodes .ensures (now (s .args .labels)) v (ready x)))
 
 pub find-started-spec : {M : Type 1} → statement M
-find-started-spec = tie.close (tie.spec (λ c κs. search needs) (λ c κs. search needs) descend-requires (λ c. search needs) (λ c. search needs) returns)
+find-started-spec = tie.close (tie.spec (λ c κs. search needs) (λ c κs. search needs) place-nodes-requires (λ c. search needs) (λ c. search needs)
+    returns)

@@ -7,8 +7,7 @@ use Rattle.tables.specs.Document.{ValidDocument, documentOf}
 use Rattle.tables.specs.Pattern.{shapeOf, ValidPattern}
 use Rattle.tables.specs.Checks.{ChecksPattern, ChecksDocument}
 use Rattle.placing.specs.Answer.{StartList}
-use Rattle.answers.proofs.Starts.{says-passed, says-failed}
-use Rattle.answers.specs.inner.Passes.{StartsRight}
+use Rattle.tables.proofs.Tests.{passed, failed}
 use borrow.Author.Needs.{needs}
 use Rattle.answers.proofs.started.Statement.{statement}
 use Rattle.answers.proofs.started.Tie as tie
@@ -34,10 +33,7 @@ begun : (z : tie.Else2) → (shapeOf (z .before .before .before .before .before 
     .args .parents)) (now (z .before .before .before .before .before .before .before .before .before .before .before .before .before .before .before .args
     .labels))) (now (z .before .before .before .before .before .before .before .before .before .before .before .before .before
     .before .before .args .starts))
-begun z =
-    let w = says-passed (StartsRight (now (z .before .before .before .before .before .before .before .before .before .before .before .before .before .before
-    .before .args .starts)) _) (z .before .starts-right .result) (z .if2 .left) (z .before .starts-right .ensures) in
-    (z .before .before .if1 .left, record { ascending = w .0; nodes = w .1 })
+begun z = (z .before .before .if1 .left, z .before .starts-right .ensures _ refl .0 (passed (z .before .starts-right .result) (z .if2 .left)))
 
 returns : tie.Need-returns
 returns c =
@@ -66,9 +62,7 @@ returns-4 c =
         inr (
           documented y,
           inl (
-            λ w. says-failed (StartsRight (now (c .before .before .before .before .before .before .before .before .before .before .before .before .before
-                .before
-                .before .args .starts)) _) (c .before .starts-right .result) (c .if2 .taken) (c .before .starts-right .ensures) (w .1 .ascending, w .1 .nodes),
+            λ w. failed (c .before .starts-right .result) (c .if2 .taken) (c .before .starts-right .ensures _ refl .1 (w .1)),
             refl,
           ),
         ),

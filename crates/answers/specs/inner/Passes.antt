@@ -1,48 +1,51 @@
--- What the two passes keep from node to node. Only private functions cite this file: a reader of the public contracts need not read it. Assumes nothing.
---   Upward     nodes from k on have their first entry; earlier ones have gathered what fits at their later children, and at or below them
---   Handed     one node's turn in the first pass
---   Ready      what the second pass starts from
---   Downward   nodes before k have both entries, and the steps that their child nodes may take
---   Noted      one node's turn in the answer list
---   Listed     the answers among the nodes before k stand at the front of the answer list
+-- What the two passes keep from node to node. Only private functions cite this file: a reader of the public contracts need not read it.
+--   first, second  the two entries of each node in the working list
+--   Handed         one node's turn in the first pass
+--   Fitted         what the first pass leaves
+--   Marked         a node is marked as a start
+--   Ready          what the second pass starts from
+--   Allowed        a step may stand at a child of a node, or below it
+--   PassedOn       the same, from the steps that stand at the node and those allowed to it
+--   Downward       nodes before k have both entries, and the steps that their child nodes may take
+--   Listed         the answers among the nodes before k stand at the front of the answer list
+--   Noted          one node's turn in the answer list
+-- Assumes nothing.
 use Prim.Native.Nat.{ℕ, _+_, _*_, _≤_, _<_}
 use mathlib.Core.Path.{_≡_}
 use mathlib.Core.Logic.{_⊎_}
 use mathlib.Core.List.{List, _++_}
-use lib.Bits.{bitOr}
 use lib.ListN.{length, getD, drop, set}
 use Rattle.tables.specs.Bits.{bit, Marks}
 use Rattle.tables.specs.Tree.{Child, From}
 use Rattle.tables.specs.Document.{Document, nodeCount, nodesOf}
 use Rattle.tables.specs.Pattern.{Shape}
-use Rattle.placing.specs.Answer.{Ascending, Started, Lists}
+use Rattle.placing.specs.Answer.{Started, Lists}
+use Rattle.plan.specs.Steps.{OfAxis}
+use Rattle.plan.specs.Leading.{Led}
+use Rattle.plan.specs.Rising.{Turned}
 use Rattle.answers.specs.Working.{FitsAt, PlacedAt}
 
--- step s fits at a child of node i that is k or later
-abbrev pub FitsAtChild : Shape → Document → ℕ → ℕ → ℕ → Type 0
-FitsAtChild A d k i s = (j : ℕ) × (k ≤ j) × Child (nodesOf d .tree) i j × FitsAt A d j s
+-- the first entry of each node
+abbrev pub first : List ℕ → ℕ → ℕ
+first work i = getD work (2 * i) 0
 
--- step s fits at or below a child of node i that is k or later
-abbrev pub FitsUnder : Shape → Document → ℕ → ℕ → ℕ → Type 0
-FitsUnder A d k i s = (j : ℕ) × (k ≤ j) × Child (nodesOf d .tree) i j × ((m : ℕ) × From (nodesOf d .tree) j m × FitsAt A d m s)
-
-pub record Upward (A : Shape) (d : Document) (seed k : ℕ) (before work : List ℕ) : Type 0 where
-  pub same-length : length work ≡ length before
-  pub fits : (i : ℕ) → k ≤ i → i < nodeCount d → Marks (getD work (2 * i) 0) (FitsAt A d i)
-  pub seeded : (i : ℕ) → k ≤ i → i < nodeCount d → getD work (2 * i + 1) 0 ≡ seed
-  pub children : (i : ℕ) → i < k → Marks (getD work (2 * i) 0) (FitsAtChild A d k i)
-  pub under : (i : ℕ) → i < k → Marks (getD work (2 * i + 1) 0) (FitsUnder A d k i)
-  pub rest : (q : ℕ) → 2 * nodeCount d ≤ q → getD work q 0 ≡ getD before q 0
+-- the second entry of each node
+abbrev pub second : List ℕ → ℕ → ℕ
+second work i = getD work (2 * i + 1) 0
 
 -- node i gets its first entry and the seed, and its parent p gathers what fits at i and below
 pub record Handed (before : List ℕ) (i p fit below seed : ℕ) (after : List ℕ) : Type 0 where
   pub same-length : length after ≡ length before
-  pub own : getD after (2 * i) 0 ≡ fit
-  pub seeded : getD after (2 * i + 1) 0 ≡ seed
-  pub up : getD after (2 * p) 0 ≡ bitOr (getD before (2 * p) 0) fit
-  pub up-under : getD after (2 * p + 1) 0 ≡ bitOr (bitOr (getD before (2 * p + 1) 0) fit) below
-  pub others : (k : ℕ) → k < i → (k ≡ p → ⊥) → (getD after (2 * k) 0 ≡ getD before (2 * k) 0) × (getD after (2 * k + 1) 0 ≡ getD before (2 * k + 1) 0)
+  pub turn : Turned i p fit fit below (first before) (second before) (first after) (second after)
+  pub seeded : second after i ≡ seed
   pub later : (q : ℕ) → 2 * i + 2 ≤ q → getD after q 0 ≡ getD before q 0
+
+-- every node has its first entry, and the seed in the second
+pub record Fitted (A : Shape) (d : Document) (seed : ℕ) (before work : List ℕ) : Type 0 where
+  pub same-length : length work ≡ length before
+  pub fits : (i : ℕ) → i < nodeCount d → Marks (first work i) (FitsAt A d i)
+  pub seeded : (i : ℕ) → i < nodeCount d → second work i ≡ seed
+  pub rest : (q : ℕ) → 2 * nodeCount d ≤ q → getD work q 0 ≡ getD before q 0
 
 -- node i is marked as a start: its second entry is 1
 abbrev pub Marked : List ℕ → ℕ → Type 0
@@ -60,6 +63,11 @@ Allowed A d First i t =
     (s : ℕ) × Child (A .tree) s t
     × (((A .axis t ≡ 0) × PlacedAt A d First i s) ⊎ ((A .axis t ≡ 1) × ((a : ℕ) × From (nodesOf d .tree) a i × PlacedAt A d First a s)))
 
+-- step t may stand at a child of a node, where `whole` stands at the node and `over` was allowed to it
+abbrev pub PassedOn : Shape → ℕ → ℕ → ℕ → Type 0
+PassedOn A whole over t = Led (Child (A .tree)) whole t ⊎ ((bit over t ≡ 1) × OfAxis A 1 t)
+
+-- nodes before k have both entries, and the steps that their child nodes may take; later ones have the first, and their start mark
 pub record Downward (A : Shape) (d : Document) (First : ℕ → Type 0) (k : ℕ) (before work allowed : List ℕ) : Type 0 where
   pub same-length : length work ≡ length before
   pub fits : (i : ℕ) → i < nodeCount d → Marks (getD work (2 * i) 0) (FitsAt A d i)
@@ -80,7 +88,3 @@ pub record Listed (A : Shape) (d : Document) (First : ℕ → Type 0) (k c : ℕ
 pub record Noted (whole output i c : ℕ) (before : List ℕ) (r : ℕ) (after : List ℕ) : Type 0 where
   pub put : bit whole output ≡ 1 → (r ≡ c + 1) × (after ≡ set before c i)
   pub skip : (bit whole output ≡ 1 → ⊥) → (r ≡ c) × (after ≡ before)
-
--- a start list is strictly ascending and below n
-abbrev pub StartsRight : List ℕ → ℕ → Type 0
-StartsRight xs n = Ascending xs × ((k : ℕ) → k < length xs → getD xs k 0 < n)

@@ -16,11 +16,11 @@ use Rattle.containment.specs.Mapping.{Contained}
 use Rattle.containment.specs.Witness.{Fresh, witnessSize}
 use Rattle.containment.specs.Equality.{pairChecks}
 use Rattle.containment.specs.inner.Verdict.{AnswersVerdict}
-use Rattle.containment.specs.declared.Verdict.{Verdict}
-use Rattle.containment.specs.declared.Verdict.the-variants as verdict
+use Rattle.containment.specs.declared.comparing.Verdict.{Verdict}
+use Rattle.containment.specs.declared.comparing.Verdict.the-variants as verdict
 use Rattle.containment.proofs.Answering.{fresh-of, fresh-none, verdict-refuses, label-refuses, room-refuses, all-pass}
 use Rattle.containment.proofs.Contained.{witness-few}
-use Rattle.containment.proofs.Verdict.{the-type}
+use Rattle.containment.proofs.comparing.Verdict.{the-type}
 use borrow.Author.Needs.{needs}
 use Rattle.containment.proofs.contains.Statement.{statement}
 use Rattle.containment.proofs.contains.Tie as tie
@@ -63,7 +63,7 @@ returns : tie.Need-returns
 returns c =
     let k = c .before .before .before .before in
     let s = k .before .before .before in
-    let u = c .plain .ensures in
+    let u = c .beside .ensures in
     let q = c .before .before .answer .given in
     let h = subst (λ (v : Verdict). AnswersVerdict (s .args .a) (s .args .b) v (k .decide .result .mapping)) (q .1) (k .decide .ensures) in
     rw (u .0) (verdict-refuses (s .args .a) (s .args .b) _ _ (q .0 .0) (h .0), u .1, refl, refl)
@@ -75,7 +75,7 @@ returns-2 : tie.Need-returns-2
 returns-2 c =
     let a = c .before .before .before .before .before .before .before .args in
     let k = c .before .before .before in
-    let u = c .plain2 .ensures in
+    let u = c .beside2 .ensures in
     rw (u .0) (
       label-refuses (a .a) (a .b) (length (now (a .parents))) (length (now (a .labels))) (sound k)
           (fresh-none (shapeOf (a .a)) (shapeOf (a .b)) _ (c .before .if1 .taken) (c .before .before .fresh .ensures)),
@@ -94,7 +94,7 @@ returns-3 : tie.Need-returns-3
 returns-3 c =
     let a = c .before .before .before .before .before .before .before .before .before .before .args in
     let d = c .before .before .before in
-    let u = c .plain3 .ensures in
+    let u = c .beside3 .ensures in
     rw (u .0) (
       room-refuses (a .a) (a .b) (length (now (a .parents))) (length (now (a .labels))) (sound (d .before .before .before)) _ (free (d .before))
           (λ w. omega (arith, w .0, c .before .if2 .taken, size d)),
@@ -107,7 +107,7 @@ returns-4 : tie.Need-returns-4
 returns-4 c =
     let a = c .before .before .before .before .before .before .before .before .before .before .before .args in
     let d = c .before .before .before .before in
-    let u = c .plain4 .ensures in
+    let u = c .beside4 .ensures in
     rw (u .0) (
       room-refuses (a .a) (a .b) (length (now (a .parents))) (length (now (a .labels))) (sound (d .before .before .before)) _ (free (d .before))
           (λ w. omega (arith, w .1, c .before .if3 .taken, size d)),
@@ -148,7 +148,7 @@ returns-6 c =
     let e = c .before .before .before .before .before .before .before .before .before .before .before in
     let d = e .before .before .before in
     let k = d .before .before .before .before in
-    let u = c .plain5 .ensures in
+    let u = c .beside5 .ensures in
     let w = c .before .before .before .before .before .before .before .write-witness .ensures in
     let r = room e in
     let p = sound (d .before .before .before) in

@@ -9,7 +9,7 @@ use native.Mathlib.Numerals.{add-one}
 use borrow.Author.Count.{below-more}
 use Rattle.tables.specs.Pattern.{shapeOf}
 use Rattle.containment.specs.Witness.{Stands}
-use Rattle.containment.proofs.Marked.{none-marked}
+use Rattle.containment.proofs.UsedLabels.{none-used}
 use Rattle.containment.proofs.fresh.Statement.{statement}
 use Rattle.containment.proofs.fresh.Tie as tie
 
@@ -46,7 +46,7 @@ labels-again c =
       omega arith,
       below-more (λ (k : ℕ). 1 ≤ k → Stands _ k ⊎ Stands _ k) (l .l + 1) (l .inv .1)
           (λ z. ⊎-elim
-          (λ t. ⊎-elim (λ f. absurd (none-marked 256 (l .l + 1) (omega arith) f)) inl
+          (λ t. ⊎-elim (λ f. absurd (none-used 256 (l .l + 1) (omega arith) f)) inl
           (c .before .before .before .before .before .before .mark-labels .ensures (l .l + 1) t))
           inr
           (c .before .before .before .before .mark-labels2 .ensures (l .l + 1) (subst T (sym (c .if3 .taken)) tt))),

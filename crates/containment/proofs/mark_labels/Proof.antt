@@ -4,13 +4,13 @@ use mathlib.Core.Logic.{inl, ⊎-elim}
 use denote.Ref.{now}
 use native.Mathlib.Omega.{arith}
 use Rattle.tables.specs.Pattern.{shapeOf}
-use Rattle.containment.proofs.Marked.{Marked, marked-more}
+use Rattle.containment.proofs.UsedLabels.{UsedIn, used-more}
 use borrow.Author.Needs.{needs}
 use Rattle.containment.proofs.mark_labels.Statement.{statement}
 use Rattle.containment.proofs.mark_labels.Tie as tie
 
 abbrev Inv-loop : tie.InvT-loop
-Inv-loop used₀ a n s₀ used s = (s ≤ n) × Marked (shapeOf a) used₀ used
+Inv-loop used₀ a n s₀ used s = (s ≤ n) × UsedIn (shapeOf a) used₀ used
 
 abbrev μ-loop : tie.MeasureT-loop
 μ-loop used₀ a n s₀ used s = n - s
@@ -24,7 +24,7 @@ loop-again c =
     let a = m .before .args in (
       omega arith,
       ⊎-elim
-          (λ w. rw (w .1) (marked-more (shapeOf (a .t1)) (m .loop .s) (now (a .used)) (m .loop .used) (omega arith) (m .loop .inv .1)))
+          (λ w. rw (w .1) (used-more (shapeOf (a .t1)) (m .loop .s) (now (a .used)) (m .loop .used) (omega arith) (m .loop .inv .1)))
           (λ w. rw (w .1) (m .loop .inv .1))
           (c .if1 .came),
     )

@@ -1,13 +1,10 @@
 -- What the private functions of containment answer. Only private functions cite this file: a reader of the public contracts need not read it.
 --   FreshOr0   the fresh label of two patterns, 0 where none is left
---   maskFor    a choice of two numbers by an axis
---   OfLabel    the steps of a label
---   Lacks      a step with a child step that has no place
---   FitsBy     a step of B that fits at a step of A, by what fits below that
+--   RightIn    a step of B may go to a step of A, by its label and the output step
 --   FitsIn     a step of B that fits at a step of A
 --   FitTable   a table of the steps of B that fit at each step of A
 --   Picks      the smallest number of a kind
---   Listed     a pattern's parents and axes as lists
+--   StepLists     a pattern's parents and axes as lists
 --   ImageAt    a step that may take another, by a table
 --   Chosen     the smallest mapping as an array
 --   Wrote      the nodes of one step of a witness
@@ -20,9 +17,9 @@ use mathlib.Core.List.{List}
 use lib.Dec.{T}
 use lib.ListN.{getD, set}
 use Rattle.tables.specs.Bits.{bit, Marks}
-use Rattle.tables.specs.Tree.{Child, From}
+use Rattle.tables.specs.Tree.{From}
 use Rattle.tables.specs.Pattern.{Shape, rowsOf, ValidShape}
-use Rattle.placing.specs.Placement.{Goes, SendsFrom}
+use Rattle.placing.specs.Placement.{LabelFits, Goes, SendsFrom}
 use Rattle.tables.specs.declared.StepNo.{StepNo}
 use Rattle.containment.specs.Mapping.{LeastMap}
 use Rattle.containment.specs.Containment.{mappingArray}
@@ -33,23 +30,9 @@ abbrev pub FreshOr0 : Shape → Shape → ℕ → Type 0
 FreshOr0 A B zero = (k : ℕ) → 1 ≤ k → k < 65536 → Stands A k ⊎ Stands B k
 FreshOr0 A B (suc l) = Fresh A B (suc l)
 
--- c for axis child, d for axis descendant
-abbrev pub maskFor : ℕ → ℕ → ℕ → ℕ
-maskFor zero c d = c
-maskFor (suc a) c d = d
-
--- the steps of B with label l
-abbrev pub OfLabel : Shape → ℕ → ℕ → Type 0
-OfLabel B l t = (t < B .tree .size) × (B .label t ≡ l)
-
--- step t of B has a child step with no place, where c has the steps that have one at a child edge, d those that have one further below or there
-abbrev pub Lacks : Shape → ℕ → ℕ → ℕ → Type 0
-Lacks B c d t = (u : ℕ) × Child (B .tree) t u × (bit (maskFor (B .axis u) c d) u ≡ 1 → ⊥)
-
--- step t of B fits at a step of label l, the output step only if `last` says so
-abbrev pub FitsBy : Shape → ℕ → Bool → ℕ → ℕ → ℕ → Type 0
-FitsBy B l last c d t =
-    (t < B .tree .size) × (B .label t ≡ l) × (t ≡ B .output → T last) × ((u : ℕ) → Child (B .tree) t u → bit (maskFor (B .axis u) c d) u ≡ 1)
+-- step t of B may go to a step of label l, the output step only if `last` says so
+abbrev pub RightIn : Shape → ℕ → Bool → ℕ → Type 0
+RightIn B l last t = LabelFits (B .label t) l × (t ≡ B .output → T last)
 
 -- step t of B with all steps below it can be sent to steps of A, t to s, and B's output step only to A's
 pub record FitsIn (B A : Shape) (s t : ℕ) : Type 0 where
@@ -68,7 +51,7 @@ pub data Picks (X : ℕ → Type 0) (r : ℕ) : Type 0 where
   nothing : r ≡ 64 → ((j : ℕ) → X j → ⊥) → Picks X r
 
 -- A, which obeys the rules, has n steps, with these parents and axes
-pub record Listed (A : Shape) (parents axes : List ℕ) (n : ℕ) : Type 0 where
+pub record StepLists (A : Shape) (parents axes : List ℕ) (n : ℕ) : Type 0 where
   pub valid : ValidShape A
   pub count : A .tree .size ≡ n
   pub parent : (j : ℕ) → A .tree .parent j ≡ getD parents j 0

@@ -9,9 +9,9 @@ use Rattle.tables.specs.declared.StepNo.{StepNo}
 use Rattle.containment.specs.Mapping.{Contained}
 use Rattle.containment.specs.Containment.{mappingArray, Within}
 use Rattle.containment.specs.Equality.{pairChecks}
-use Rattle.containment.specs.declared.Verdict.{Verdict}
-use Rattle.containment.specs.declared.Verdict.the-variants as verdict
-use Rattle.containment.specs.declared.VerdictAnswer.{VerdictAnswer}
+use Rattle.containment.specs.declared.comparing.Verdict.{Verdict}
+use Rattle.containment.specs.declared.comparing.Verdict.the-variants as verdict
+use Rattle.containment.specs.declared.comparing.VerdictAnswer.{VerdictAnswer}
 
 -- the answer by its cases; the mapping is zero unless contained
 abbrev pub AnswersVerdict : Pattern → Pattern → Verdict → List StepNo → Type 0

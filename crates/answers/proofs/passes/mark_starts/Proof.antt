@@ -12,10 +12,10 @@ use Rattle.answers.proofs.passes.mark_starts.Statement.{statement}
 use Rattle.answers.proofs.passes.mark_starts.Tie as tie
 
 abbrev Inv-loop : tie.InvT-loop
-Inv-loop starts n work₀ k₀ work k = (k ≤ length starts) × MarkedTo starts work₀ k work
+Inv-loop starts n work₀ m k₀ work k = (k ≤ m) × MarkedTo starts work₀ k work
 
 abbrev μ-loop : tie.MeasureT-loop
-μ-loop starts n work₀ k₀ work k = length starts - k
+μ-loop starts n work₀ m k₀ work k = m - k
 
 -- what marking a node asks of a 16-bit number
 slots : (x : ℕ) → Fits w16 x → Fits w64 x × Fits w64 (2 * x) × Fits w64 (2 * x + 1) × Fits w64 ((2 * x + 1) * 8)

@@ -6,15 +6,10 @@ use Rattle.answers.proofs.passes.note.Statement.{statement}
 use Rattle.answers.proofs.passes.note.Tie as tie
 
 returns : tie.Need-returns
-returns c =
-    let b : bit (c .before .before .before .args .whole) (c .before .before .before .args .output) ≡ 1 = rw (c .if1 .taken) at (c .before .has-bit .ensures) in
-    record { put = λ h. (refl, refl); skip = λ n. absurd (n b) }
+returns c = record { put = λ h. (refl, refl); skip = λ n. absurd (n (c .before .has-bit .ensures .0 (rw (c .if1 .taken) tt))) }
 
 returns-2 : tie.Need-returns-2
-returns-2 c =
-    let n : bit (c .before .before .before .args .whole) (c .before .before .before .args .output) ≡ 1 → ⊥ = rw (c .if1 .left) at
-    (c .before .has-bit .ensures) in
-    record { put = λ b. absurd (n b); skip = λ h. (refl, refl) }
+returns-2 c = record { put = λ b. absurd (rw (c .if1 .left) at (c .before .has-bit .ensures .1 b)); skip = λ h. (refl, refl) }
 
 pub note-spec : {M : Type 1} → statement M
 note-spec = tie.close (tie.spec (λ c κs. search needs) (λ c. search needs) (λ c. search needs) (λ c. search needs) (λ c. search needs)

@@ -1,16 +1,18 @@
--- Where a step is a fork, the table is looked up; otherwise the shift is what is passed on. Assumes nothing.
-use mathlib.Core.Logic.{⊎-elim}
-use native.Mathlib.Omega.{arith}
+-- What the steps of a node lead to is joined with the descendant steps of what was allowed to it. Assumes nothing.
+use mathlib.Core.Path.{_≡_}
+use Rattle.tables.specs.Bits.{bit}
+use Rattle.tables.specs.Tree.{Child}
+use Rattle.tables.proofs.Marks.{marks-bits, marks-and, marks-or}
+use Rattle.plan.specs.Steps.{OfAxis}
+use Rattle.plan.specs.Leading.{Led}
 use borrow.Author.Needs.{needs}
 use Rattle.answers.proofs.passes.pass_on.Statement.{statement}
 use Rattle.answers.proofs.passes.pass_on.Tie as tie
 
 returns : tie.Need-returns
-returns c =
-    ⊎-elim
-    (λ w. record { shifted = λ e. absurd (omega (arith, e, w .0 .taken)); looked-up = λ l. rw (w .2, w .1 .ensures) })
-    (λ w. record { shifted = λ e. rw (w .1); looked-up = λ l. absurd (omega (arith, l, w .0 .left)) })
-    (c .before .if1 .came)
+returns c = λ A p few.
+    marks-or _ _ (Led (Child (A .tree)) _) _ (c .before .led .ensures A p few)
+    (marks-and _ _ (λ t. bit (c .before .before .args .over) t ≡ 1) (OfAxis A 1) (marks-bits (c .before .before .args .over)) (p .sets-of .descendant))
 
 pub pass-on-spec : {M : Type 1} → statement M
 pass-on-spec = tie.close (tie.spec (λ c κs. search needs) returns)

@@ -5,7 +5,7 @@ use native.Mathlib.Omega.{arith}
 use native.Mathlib.Numerals.{add-one}
 use Rattle.tables.specs.Pattern.{shapeOf}
 use Rattle.containment.specs.Witness.{descendants, ownNode}
-use Rattle.containment.proofs.Writing.{own-few}
+use Rattle.containment.proofs.WitnessSteps.{own-few}
 use borrow.Author.Needs.{needs}
 use Rattle.containment.proofs.witness.own_node.Statement.{statement}
 use Rattle.containment.proofs.witness.own_node.Tie as tie

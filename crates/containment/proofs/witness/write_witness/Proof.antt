@@ -9,7 +9,7 @@ use Rattle.tables.specs.Pattern.{shapeOf}
 use Rattle.tables.proofs.Gathered.{parent-few}
 use Rattle.containment.specs.Witness.{hook, witnessOf}
 use Rattle.containment.proofs.Nodes.{descendants-le}
-use Rattle.containment.proofs.Writing.{Front, NodesTo, front-none, nodes-more, hook-is, front-more, front-room, front-lengths}
+use Rattle.containment.proofs.WitnessSteps.{Front, NodesTo, front-none, nodes-more, hook-is, front-more, front-room, front-lengths}
 use Rattle.containment.proofs.Contained.{axes, witness-few}
 use Rattle.containment.proofs.witness.write_witness.Statement.{statement}
 use Rattle.containment.proofs.witness.write_witness.Tie as tie

@@ -1,0 +1,23 @@
+-- `containment::fitting::along` meets its contract. Assumes nothing.
+use Prim.Native.Nat.{ℕ, zero, suc}
+use mathlib.Core.Path.{_≡_, refl}
+use mathlib.Core.Logic.{_≢_}
+use native.Mathlib.Omega.{arith}
+use Rattle.plan.specs.Steps.{maskFor}
+use borrow.Author.Needs.{needs}
+use Rattle.containment.proofs.fitting.along.Statement.{statement}
+use Rattle.containment.proofs.fitting.along.Tie as tie
+
+-- any axis but 0
+further : (a f : ℕ) → a ≢ 0 → 0 ≡ maskFor a f 0
+further zero f n = absurd (n refl)
+further (suc a) f n = refl
+
+returns : tie.Need-returns
+returns c = search needs
+
+returns-2 : tie.Need-returns-2
+returns-2 c = further (c .before .args .axis) _ (λ e. omega arith)
+
+pub along-spec : {M : Type 1} → statement M
+along-spec = tie.close (tie.spec returns returns-2)

@@ -1,0 +1,21 @@
+-- `containment::fitting::hand_up` meets its contract: the stores leave one turn. Assumes nothing.
+use denote.Ref.{now}
+use native.Mathlib.Omega.{arith}
+use lib.ListN.{length-set}
+use Rattle.containment.proofs.StepFits.{turned-lists}
+use borrow.Author.Needs.{needs}
+use Rattle.containment.proofs.fitting.hand_up.Statement.{statement}
+use Rattle.containment.proofs.fitting.hand_up.Tie as tie
+
+returns : tie.Need-returns
+returns c =
+    let s = c .before .before .before in
+    let a = s .args in (
+      (simp length-set (s .pre .2), simp length-set (s .pre .3)),
+      turned-lists (a .i) (a .p) (a .f) (a .g) (now (a .fit)) (now (a .under)) (s .pre .0) (omega (arith, s .pre .2)) (omega (arith, s .pre .3)),
+    )
+
+pub hand-up-spec : {M : Type 1} → statement M
+hand-up-spec = tie.close (tie.spec (λ c. search needs) (λ c. search needs) (λ c. search needs) (λ c. search needs) (λ c. search needs)
+    (λ c. search needs) (λ c. search needs) (λ c. search needs) (λ c. search needs) (λ c. search needs) (λ c. search needs) (λ c. search needs)
+    returns)

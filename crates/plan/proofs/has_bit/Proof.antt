@@ -1,0 +1,16 @@
+-- `plan::has_bit` meets its contract: the flag of an equality tells it. Assumes nothing.
+use Prim.Native.Nat.{_/_, _%_, _^_}
+use Rattle.tables.specs.Bits.{bit}
+use Rattle.tables.proofs.Tests.{tells-eq}
+use borrow.Author.Needs.{needs}
+use Rattle.plan.proofs.has_bit.Statement.{statement}
+use Rattle.plan.proofs.has_bit.Tie as tie
+
+returns : tie.Need-returns
+unfolding bit
+returns c =
+    let t = tells-eq (c .args .x / 2 ^ c .args .s % 2) 1 in
+    (t .says, t .test)
+
+pub has-bit-spec : {M : Type 1} → statement M
+has-bit-spec = tie.close (tie.spec (λ c. search needs) returns)
