@@ -16,14 +16,10 @@ place-nodes-requires c κs =
     let v = s .pre .1 .0 in
     let u = c .before .before .before .before .fit-nodes .ensures in (
       s .pre .0,
-<<<<<<< HEAD
-      (v, (s .pre .1 .1 .0, plain-ready (shapeOf (s .args .t1)) _ (s .pre .0) v _ _ (s .pre .1 .1 .1) (c .before .before .before .before .rise .ensures))),
-=======
       (
         (v .few, plain-ready (shapeOf (s .args .t1)) _ (s .pre .0) v _ _ (s .pre .1 .1 .1) u .room, s .pre .1 .1 .0),
         λ i p l. parent-lt (document-ordered v) i p l,
       ),
->>>>>>> plan
     )
 
 returns : tie.Need-returns
