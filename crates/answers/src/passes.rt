@@ -111,13 +111,7 @@ fn fit_turns(
 }
 
 // The first pass: which steps fit at each node, with the seed in every second entry.
-pub(crate) fn fit_nodes(
-    p: Pattern,
-    parents: &[u16],
-    labels: &[u16],
-    seed: u64,
-    work: &mut [u64],
-)
+pub(crate) fn fit_nodes(p: Pattern, parents: &[u16], labels: &[u16], seed: u64, work: &mut [u64])
     requires { ⌜ ValidPattern p ⌝ }
     requires { ⌜ ValidDocument (documentOf (now parents) (now labels)) ⌝ }
     requires { ⌜ 2 * length (now parents) ≤ length (now work) ⌝ }

@@ -5,7 +5,7 @@ use mathlib.Core.Logic.{_⊎_, inl, inr}
 use denote.Ref.{now}
 use native.Mathlib.Omega.{arith}
 use lib.ListN.{length, length-set}
-use Rattle.tables.specs.Pattern.{shapeOf}
+use Rattle.tables.specs.Pattern.{Shape, shapeOf}
 use Rattle.tables.proofs.Gathered.{parent-few}
 use Rattle.containment.specs.Witness.{hook, witnessOf}
 use Rattle.containment.proofs.Nodes.{descendants-le}
@@ -21,128 +21,77 @@ Inv-loop l parents₀ labels₀ a n nodes₀ m₀ s₀ parents labels nodes m s 
 abbrev μ-loop : tie.MeasureT-loop
 μ-loop l parents₀ labels₀ a n nodes₀ m₀ s₀ parents labels nodes m s = n - s
 
-loop-holds : tie.Need-loop-holds Inv-loop μ-loop
-loop-holds c = (omega arith, front-none _ _ _ _, refl, λ k g. absurd (omega arith))
+-- the turn of a step, the loop and the start, seen from there
+abbrev turn : tie.After-slice-known4 Inv-loop μ-loop → tie.In-loop Inv-loop μ-loop
+turn c = c .before .before .before .before .before .before .before .before .before .before .before .before
 
-element-copy-out-hook-of : tie.Need-element-copy-out-hook-of Inv-loop μ-loop
-element-copy-out-hook-of c = omega (arith, c .before .before .before .before .before .pre .0 .few)
+abbrev start : tie.In-loop Inv-loop μ-loop → tie.Start Inv-loop μ-loop
+start x = x .before .before .before .before
 
-hook-of-requires : tie.Need-hook-of-requires Inv-loop μ-loop
-hook-of-requires c κs = λ l. parent-few (shapeOf (c .before .before .before .before .before .before .args .t1))
-    (c .before .before .before .before .before .before .pre .0) (c .before .before .before .loop .s) l (c .before .before .loop-test .taken)
+abbrev shape : tie.In-loop Inv-loop μ-loop → Shape
+shape x = shapeOf (start x .args .t1)
 
-element-copy-out-write-step : tie.Need-element-copy-out-write-step Inv-loop μ-loop
-element-copy-out-write-step c = omega (arith, c .before .before .before .before .before .before .before .pre .0 .few)
-
-mul-write-step : tie.Need-mul-write-step Inv-loop μ-loop
-mul-write-step c = record { fits = omega (arith, c .before .before .before .before .before .before .before .before .pre .0 .few) }
-
-element-copy-out-write-step-2 : tie.Need-element-copy-out-write-step-2 Inv-loop μ-loop
-element-copy-out-write-step-2 c = omega (arith, c .before .before .before .before .before .before .before .before .pre .0 .few)
+-- its step is one of the pattern's, so one of 64
+few : (x : tie.In-loop Inv-loop μ-loop) → x .before .loop .s < 64
+few x = omega (arith, x .loop-test .taken, start x .pre .0 .few)
 
 at-most : {a : ℕ} → (a ≡ 0) ⊎ (a ≡ 1) → a ≤ 1
 at-most (inl e) = omega arith
 at-most (inr e) = omega arith
 
+loop-holds : tie.Need-loop-holds Inv-loop μ-loop
+loop-holds c = (omega arith, front-none _ _ _ _, refl, λ k g. absurd (omega arith))
+
+hook-of-requires : tie.Need-hook-of-requires Inv-loop μ-loop
+hook-of-requires c κs = let x = c .before .before in λ l. parent-few (shape x) (start x .pre .0) (x .before .loop .s) l (x .loop-test .taken)
+
 write-step-requires : tie.Need-write-step-requires Inv-loop μ-loop
 write-step-requires c κs =
-    let m = c .before .before .before .before .before .before .before .before in
-    let p = m .before .before .before .pre in
-    let h : m .loop .s < m .before .before .before .args .t1 .count = c .before .before .before .before .before .before .before .loop-test .taken in
-    let f = m .loop .inv .1 in
-    let r = front-room (shapeOf (m .before .before .before .args .t1)) (p .0) (m .loop .s) h in
-    let k = front-lengths _ (p .0) _ (m .loop .s) _ _ _ _ _ (m .loop .inv .0) f (p .1) (p .2) in
-    let a = axes (p .0) (m .loop .s) h in
-    (omega (arith, r, f .place, witness-few (p .0)), at-most a, omega (arith, r, f .place, k .0, p .1), omega (arith, r, f .place, k .1, p .2))
+    let x = c .before .before .before .before .before .before .before in
+    let l = x .before .loop in
+    let p = start x .pre in
+    let f = l .inv .1 in
+    let r = front-room (shape x) (p .0) (l .s) (x .loop-test .taken) in
+    let k = front-lengths _ (p .0) _ (l .s) _ _ _ _ _ (l .inv .0) f (p .1) (p .2) in (
+      omega (arith, r, f .place, witness-few (p .0)),
+      at-most (axes (p .0) (l .s) (x .loop-test .taken)),
+      omega (arith, r, f .place, k .0, p .1),
+      omega (arith, r, f .place, k .1, p .2),
+    )
 
 -- the hook is the step's
-hooked : (c : tie.After-slice-known4 Inv-loop μ-loop) → c .before .before .before .before .before .before .before .before .before .hook-of .result ≡ hook
-    (shapeOf (c .before .before .before .before .before .before .before .before .before .before .before .before .before .before .before .before .args .t1))
-    (c .before .before .before .before .before .before .before .before .before .before .before .before .before .loop .s)
+hooked : (c : tie.After-hook-of Inv-loop μ-loop) → c .hook-of .result ≡ hook (shape (c .before .before .before)) (c .before .before .before .before .loop .s)
 hooked c =
-    let m = c .before .before .before .before .before .before .before .before .before .before .before .before .before in
-    let h = c .before .before .before .before .before .before .before .before .before .hook-of .ensures in
-    hook-is (shapeOf (c .before .before .before .before .before .before .before .before .before .before .before .before .before .before .before .before .args
-    .t1)) (c .before .before .before .before .before .before .before .before .before .before .before .before .before .before .before .before .pre .0)
-    (m .loop .s) _ (m .loop .nodes) (c .before .before .before .before .before .before .before .before .before .before .before .before .loop-test .taken)
-    (m .loop .inv .3) (h .0) (h .1)
+    let x = c .before .before .before in
+    let l = x .before .loop in
+    hook-is (shape x) (start x .pre .0) (l .s) _ (l .nodes) (x .loop-test .taken) (l .inv .3) (c .hook-of .ensures .0) (c .hook-of .ensures .1)
 
 -- the first steps up to step s are written, when it is
-written : (c : tie.After-slice-known4 Inv-loop μ-loop) → let m = c .before .before .before .before .before .before .before .before .before .before .before
-    .before .before in
-    Front (shapeOf (m .before .before .before .args .t1)) (m .before .before .before .args .l) (m .loop .s + 1)
-    (c .before .before .before .before .write-step .result)
-    (now (m .before .before .before .args .parents)) (now (m .before .before .before .args .labels))
-    (c .before .before .before .before .write-step .last .1 .1 .1 .1 .1 .0) (c .before .before .before .before .write-step .last .1 .1 .1 .1 .1 .1 .0)
+written : (c : tie.After-slice-known4 Inv-loop μ-loop) → let w = c .before .before .before .before .write-step in
+    let a = start (turn c) .args in
+    Front (shape (turn c)) (a .l) (turn c .before .loop .s + 1) (w .result) (now (a .parents)) (now (a .labels))
+    (w .last .1 .1 .1 .1 .1 .0) (w .last .1 .1 .1 .1 .1 .1 .0)
 written c =
-    let m = c .before .before .before .before .before .before .before .before .before .before .before .before .before in
-    let s = m .before .before .before in
-    front-more (shapeOf (s .args .t1)) (s .pre .0) (s .args .l) (m .loop .s) (m .loop .m) _ _ _ _ _ _ _
-    (c .before .before .before .before .before .before .before .before .before .before .before .before .loop-test .taken) (m .loop .inv .1)
-    (rw (hooked c) at (c .before .before .before .before .write-step .ensures)) (s .pre .1) (s .pre .2)
-
-sub-nodes : tie.Need-sub-nodes Inv-loop μ-loop
-sub-nodes c = omega (arith, written c .place)
+    let x = turn c in
+    let y = c .before .before .before .before in
+    let s = start x in
+    let l = x .before .loop in
+    front-more (shape x) (s .pre .0) (s .args .l) (l .s) (l .m) _ _ _ _ _ _ _ (x .loop-test .taken) (l .inv .1)
+    (rw (hooked (y .before .before .before .before .before)) at (y .write-step .ensures)) (s .pre .1) (s .pre .2)
 
 cast-nodes : tie.Need-cast-nodes Inv-loop μ-loop
 cast-nodes c =
-    let m = c .before .before .before .before .before .before .before .before .before .before .before .before .before in
-    let p = m .before .before .before .pre in
-    let few = descendants-le (shapeOf (m .before .before .before .args .t1)) (axes (p .0)) (m .loop .s + 1)
-    (omega (arith, c .before .before .before .before .before .before .before .before .before .before .before .before .loop-test .taken)) in
-    record {
-      fits = omega (
-        arith,
-        written c .place,
-        few,
-        p .0 .few,
-        c .before .before .before .before .before .before .before .before .before .before .before
-            .before .loop-test .taken,
-      );
-    }
-
-mul-nodes : tie.Need-mul-nodes Inv-loop μ-loop
-mul-nodes c = record {
-  fits = omega (
-    arith,
-    c .before .before .before .before .before .before .before .before .before .before .before .before .before .before
-        .before .before .pre .0 .few,
-  );
-}
-
-array-write-nodes : tie.Need-array-write-nodes Inv-loop μ-loop
-array-write-nodes c = omega (
-  arith,
-  c .before .before .before .before .before .before .before .before .before .before .before .before .before .before .before
-      .before .pre .0 .few,
-)
-
-add-s : tie.Need-add-s Inv-loop μ-loop
-add-s c = record {
-  fits = omega (
-    arith,
-    c .before .before .before .before .before .before .before .before .before .before .before .before .before .before
-        .before .before .pre .0 .few,
-  );
-}
-
-loop-less : tie.Need-loop-less Inv-loop μ-loop
-loop-less c = omega (arith, c .before .before .before .before .before .before .before .before .before .before .before .before .loop-test .taken)
+    let x = turn c in
+    let p = start x .pre in
+    let d = descendants-le (shape x) (axes (p .0)) (x .before .loop .s + 1) (omega (arith, x .loop-test .taken)) in
+    record { fits = omega (arith, written c .place, d, few x) }
 
 loop-again : tie.Need-loop-again Inv-loop μ-loop
 loop-again c =
-    let m = c .before .before .before .before .before .before .before .before .before .before .before .before .before in
-    let f = written c in (
-      omega arith,
-      f,
-      simp length-set (m .loop .inv .2),
-      nodes-more _ (m .loop .s) _ (m .loop .nodes) (omega (
-        arith,
-        m .loop .inv .2,
-        c .before .before .before .before .before .before .before .before .before
-            .before .before .before .before .before .before .before .pre .0 .few,
-      )) (f .place) (m .loop .inv .3),
-    )
+    let x = turn c in
+    let l = x .before .loop in
+    let f = written c in
+    (omega arith, f, simp length-set (l .inv .2), nodes-more _ (l .s) _ (l .nodes) (omega (arith, l .inv .2, few x)) (f .place) (l .inv .3))
 
 same-length : tie.Need-same-length Inv-loop μ-loop
 same-length c =
@@ -165,6 +114,7 @@ returns c =
     (f .place, (f .parent-list, f .label-list))
 
 pub write-witness-spec : {M : Type 1} → statement M
-write-witness-spec = tie.close (tie.spec Inv-loop μ-loop loop-holds element-copy-out-hook-of hook-of-requires element-copy-out-write-step
-    mul-write-step element-copy-out-write-step-2 write-step-requires sub-nodes cast-nodes mul-nodes array-write-nodes add-s loop-less loop-again
-    same-length same-length-2 returns)
+write-witness-spec = tie.close (tie.spec Inv-loop μ-loop loop-holds (λ c. few (c .before)) hook-of-requires (λ c. few (c .before .before .before))
+    (λ c. record { fits = omega (arith, few (c .before .before .before .before)) }) (λ c. few (c .before .before .before .before)) write-step-requires
+    (λ c. omega (arith, written c .place)) cast-nodes (λ c. record { fits = omega (arith, few (turn c)) }) (λ c. few (turn c))
+    (λ c. record { fits = omega (arith, few (turn c)) }) (λ c. omega (arith, turn c .loop-test .taken)) loop-again same-length same-length-2 returns)
