@@ -130,7 +130,5 @@ pub(crate) fn fit_steps(a: Pattern, b: Pattern, fit: &mut [u64; 64])
     let mut later = [0u64; 64];
     let n = plan::group(&children, sets.next, b.count, &mut forks, &mut later);
     let output = plan::one_bit(b.output.0 as usize);
-    fit_turns(
-        a, &low, &high, &forks, &later, n, sets, output, fit,
-    );
+    fit_turns(a, &low, &high, &forks, &later, n, sets, output, fit);
 }

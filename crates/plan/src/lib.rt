@@ -12,7 +12,6 @@ ghost use Rattle.placing.specs.Placement.{LabelFits};
 ghost use Rattle.plan.specs.Steps.{OfLabel, Labelled, SetsOf, Missing, Lacking, FitsBy};
 ghost use Rattle.plan.specs.Leading.{ToParent, Led, Doubled, Spread, lookUp, Groups, Reached};
 ghost use Rattle.plan.specs.Plans.{TablePlan, GroupPlan, DownPlan};
-
 use tables::Pattern;
 
 // The number with bit s alone.
