@@ -42,7 +42,8 @@ module _ (A : Shape) (va : ValidShape A) where
       placed : Marks whole (PlacedAt A d First i)
       allows : Marks x (Allowed A d First i)
 
-    turn-root : (fit over start x : ℕ) → Marks fit (FitsAt A d 0) → over ≡ 0 → Marks start (λ s. (s ≡ 0) × First 0) → HandsOn (bitAnd fit (bitOr over start)) over x
+    turn-root : (fit over start x : ℕ) → Marks fit (FitsAt A d 0) → over ≡ 0 → Marks start (λ s. (s ≡ 0) × First 0) → HandsOn (bitAnd fit (bitOr over start))
+        over x
         → Turn 0 over (bitAnd fit (bitOr over start)) x
     turn-root fit over start x mf z ms p =
         let None : ℕ → Type 0 = λ s. ⊥ in

@@ -70,10 +70,7 @@ pub fn answers(
         return Counted::Refused(r);
     }
     let nodes = parents.len();
-    if list.len() < nodes {
-        return Counted::Refused(Refusal::Room);
-    }
-    if work.len() / 2 < nodes {
+    if list.len() < nodes || work.len() / 2 < nodes {
         return Counted::Refused(Refusal::Room);
     }
     Counted::Count(find(p, parents, labels, list, work))
@@ -99,16 +96,10 @@ pub fn started(
         return Counted::Refused(r);
     }
     let n = parents.len();
-    if p.axis[0] != 0 {
+    if p.axis[0] != 0 || !passes::starts_right(starts, n) {
         return Counted::Refused(Refusal::Start);
     }
-    if !passes::starts_right(starts, n) {
-        return Counted::Refused(Refusal::Start);
-    }
-    if list.len() < n {
-        return Counted::Refused(Refusal::Room);
-    }
-    if work.len() / 2 < n {
+    if list.len() < n || work.len() / 2 < n {
         return Counted::Refused(Refusal::Room);
     }
     Counted::Count(find_started(p, parents, labels, starts, list, work))

@@ -204,7 +204,8 @@ pub(crate) fn place_nodes(p: Pattern, parents: &[u16], work: &mut [u64], list: &
     requires { ⌜ ValidPattern p ⌝ }
     requires { ⌜ (length (now parents) ≤ 2048) × (2 * length (now parents) ≤ length (now work)) × (length (now parents) ≤ length (now list)) ⌝ }
     requires { ⌜ ((i : ℕ) → 0 < i → i < length (now parents) → getD (now parents) i 0 < i) ⌝ }
-    ensures { λ r. ⌜ ((labels : List ℕ) → ValidDocument (documentOf (now (parents .entry)) labels) → Ready (shapeOf p) (documentOf (now (parents .entry)) labels)
+    ensures { λ r. ⌜ ((labels : List ℕ) → ValidDocument (documentOf (now (parents .entry)) labels) → Ready (shapeOf p)
+        (documentOf (now (parents .entry)) labels)
         (now (work .entry)) → Found (shapeOf p) (documentOf (now (parents .entry)) labels) (Marked (now (work .entry))) (now (list .entry))
         (now (work .entry)) r (now (list .exit)) (now (work .exit))) ⌝ }
 {

@@ -74,7 +74,8 @@ module _ (B : Shape) (l c d x : ℕ) (m : Marks x (FitsBy B (λ t. LabelFits (B 
       (marks-without x (2 ^ B .output) (FitsBy B (λ t. LabelFits (B .label t) l) c d) (λ t. t ≡ B .output) m (marks-one (B .output)))
 
 -- the stores of one turn
-pub turned-lists : (i p f g : ℕ) (fit under : List ℕ) → p < i → i < length fit → i < length under → Turned i p f g (getD under i 0) (entries fit) (entries under)
+pub turned-lists : (i p f g : ℕ) (fit under : List ℕ) → p < i → i < length fit → i < length under → Turned i p f g (getD under i 0) (entries fit)
+    (entries under)
     (entries (set (set fit i f) p (bitOr (getD (set fit i f) p 0) g))) (entries (set under p (bitOr (bitOr (getD under p 0) f) (getD under i 0))))
 turned-lists i p f g fit under l a b = record {
   own = getD-set-other (set fit i f) p i _ 0 (omega arith) ∙ getD-set-same fit i f 0 a;

@@ -107,10 +107,7 @@ pub fn equal(a: Pattern, b: Pattern) -> Equality
     if let Checked::Refused(r) = tables::check_pattern(b) {
         return Equality::Refused(r);
     }
-    if !comparing::within(a, b) {
-        return Equality::Different;
-    }
-    if !comparing::within(b, a) {
+    if !comparing::within(a, b) || !comparing::within(b, a) {
         return Equality::Different;
     }
     Equality::Equal
@@ -148,10 +145,7 @@ pub fn contains(
         return beside(Containment::Refused(Refusal::NoLabel));
     }
     let m = a.count + witness::descendants_before(a, a.count);
-    if parents.len() < m {
-        return beside(Containment::Refused(Refusal::Room));
-    }
-    if labels.len() < m {
+    if parents.len() < m || labels.len() < m {
         return beside(Containment::Refused(Refusal::Room));
     }
     if let comparing::Verdict::Contained = answer {

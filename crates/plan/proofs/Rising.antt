@@ -1,5 +1,5 @@
--- Which steps of a pattern fit at each row, from the last row to the first: how such a pass starts, one turn, and what it finds. The rows are a document's nodes
--- or another pattern's steps, and their two numbers are functions of the row, whatever lists they stand in. Assumes nothing.
+-- Which steps of a pattern fit at each row, from the last row to the first: how such a pass starts, one turn, and what it finds. The rows are a document's
+-- nodes or another pattern's steps, and their two numbers are functions of the row, whatever lists they stand in. Assumes nothing.
 use Prim.Native.Nat.{ℕ, zero, suc, _≤_, _<_}
 use mathlib.Core.Path.{_≡_, refl, sym, ap, _∙_, subst}
 use mathlib.Core.Logic.{_⊎_, inl, inr, ⊎-elim, _↔_}

@@ -2,10 +2,14 @@
 use mathlib.Core.Path.{refl, subst}
 use mathlib.Core.Logic.{inl, inr, ⊎-elim}
 use denote.Ref.{now}
+use Prim.Native.Nat.{_/_}
 use native.Mathlib.Omega.{arith}
 use Rattle.tables.specs.Document.{ValidDocument, documentOf}
 use Rattle.tables.specs.Pattern.{ValidPattern}
 use Rattle.tables.specs.Checks.{ChecksPattern, ChecksDocument}
+use borrow.Author.Tests.{ltb-true, ltb-false}
+use lib.ListN.{length}
+use Rattle.answers.specs.Answers.{HasRoom}
 use borrow.Author.Needs.{needs}
 use Rattle.answers.proofs.answers.Statement.{statement}
 use Rattle.answers.proofs.answers.Tie as tie
@@ -38,26 +42,40 @@ returns-2 c =
     (c .before .before .before .check-document .ensures) in
     (inr (patterned x, ⊎-elim inl (λ w. absurd (w .1)) (v .0)), (refl, refl))
 
+-- the third is that both lists have room
+short : (z : tie.Joined1)
+    → let a = z .before .before .before .before .before .before .before .before .before .before .before .args in
+    HasRoom (documentOf (now (a .parents)) (now (a .labels))) (length (now (a .list))) (length (now (a .work))) → ⊥
+short z w =
+    let a = z .before .before .before .before .before .before .before .before .before .before .before .args in
+    ⊎-elim (λ q. omega (arith, w .0, q .taken))
+    (λ q. omega (arith, w .1, ltb-true (length (now (a .work)) / 2) (length (now (a .parents))) (q .1 .taken))) (z .if1 .came)
+
 returns-3 : tie.Need-returns-3
 returns-3 c =
     let y = c .before in
-    (inr (patterned (y .before .before .before), inr (documented y, inl (λ w. omega (arith, w .0), refl))), (refl, refl))
+    (inr (patterned (y .before .before .before), inr (documented y, inl (short c, refl))), (refl, refl))
 
-returns-4 : tie.Need-returns-4
-returns-4 c =
-    let y = c .before .before in
-    (inr (patterned (y .before .before .before), inr (documented y, inl (λ w. omega (arith, w .1), refl))), (refl, refl))
+room : (z : tie.Else2)
+    → let a = z .before .before .before .before .before .before .before .before .before .before .before .before .args in
+    HasRoom (documentOf (now (a .parents)) (now (a .labels))) (length (now (a .list))) (length (now (a .work)))
+room z =
+    let a = z .before .before .before .before .before .before .before .before .before .before .before .before .args in
+    (z .before .if1 .left, omega (arith, ltb-false (length (now (a .work)) / 2) (length (now (a .parents))) (z .if2 .left)))
 
 find-requires : tie.Need-find-requires
 find-requires c κs =
     let y = c .before .before .before .before in
-    (patterned (y .before .before .before), (documented y, (omega arith, omega arith)))
+    (patterned (y .before .before .before), (documented y, room (c .before .before)))
 
-returns-5 : tie.Need-returns-5
-returns-5 c =
-    let y = c .before .before .before .before .before .before .before .before .before in
-    ((patterned (y .before .before .before), (documented y, ((omega arith, omega arith), tt))), c .before .before .before .before .find .ensures)
+returns-4 : tie.Need-returns-4
+returns-4 c =
+    let y = c .before .before .before .before .before .before .before .before .before in (
+      (patterned (y .before .before .before), (documented y, (room (c .before .before .before .before .before .before .before), tt))),
+      c .before .before
+          .before .before .find .ensures,
+    )
 
 pub answers-spec : {M : Type 1} → statement M
 answers-spec = tie.close (tie.spec (λ c κs. search needs) (λ c. search needs) returns (λ c. search needs) (λ c κs. search needs) (λ c. search needs)
-    returns-2 (λ c. search needs) returns-3 returns-4 find-requires (λ c. search needs) (λ c. search needs) returns-5)
+    returns-2 (λ c. search needs) returns-3 find-requires (λ c. search needs) (λ c. search needs) returns-4)

@@ -14,12 +14,14 @@ use Rattle.answers.proofs.find_started.Statement.{statement}
 use Rattle.answers.proofs.find_started.Tie as tie
 
 -- the second pass starts from a list that is ready
-ready : (x : tie.After-mark-starts) → Ready (shapeOf (x .before .before .before .before .before .before .before .before .before .before .before .args .p)) (documentOf (now (x .before .before .before .before .before .before .before .before .before .before .before .args .parents))
+ready : (x : tie.After-mark-starts) → Ready (shapeOf (x .before .before .before .before .before .before .before .before .before .before .before .args .p))
+    (documentOf (now (x .before .before .before .before .before .before .before .before .before .before .before .args .parents))
     (now (x .before .before .before .before .before .before .before .before .before .before .before .args .labels))) (x .mark-starts .last .1 .1 .0)
 ready x =
     let s = x .before .before .before .before .before .before .before .before .before .before .before in
     let m = x .mark-starts in
-    started-ready (shapeOf (s .args .p)) _ (s .pre .0) (s .pre .1 .0) _ _ (s .pre .1 .1 .1 .1) (x .before .before .before .before .fit-nodes .ensures) (now (s .args .starts))
+    started-ready (shapeOf (s .args .p)) _ (s .pre .0) (s .pre .1 .0) _ _ (s .pre .1 .1 .1 .1) (x .before .before .before .before .fit-nodes .ensures)
+    (now (s .args .starts))
     (m .last .1 .1 .0) (s .pre .1 .1 .0) (m .kept .1 .1 .0) (m .ensures .0) (m .ensures .1)
 
 place-nodes-requires : tie.Need-place-nodes-requires

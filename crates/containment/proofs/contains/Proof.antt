@@ -21,6 +21,7 @@ use Rattle.containment.specs.declared.comparing.Verdict.the-variants as 
 use Rattle.containment.proofs.Answering.{fresh-of, fresh-none, verdict-refuses, label-refuses, room-refuses, all-pass}
 use Rattle.containment.proofs.Contained.{witness-few}
 use Rattle.containment.proofs.comparing.Verdict.{the-type}
+use borrow.Author.Tests.{ltb-true, ltb-false}
 use borrow.Author.Needs.{needs}
 use Rattle.containment.proofs.contains.Statement.{statement}
 use Rattle.containment.proofs.contains.Tie as tie
@@ -57,7 +58,16 @@ size c = rw (c .descendants-before .ensures)
 room : (c : tie.Else3)
     → let s = c .before .before .before .before .before .before .before .before .before .before in
     (witnessSize (shapeOf (s .args .a)) ≤ length (now (s .args .parents))) × (witnessSize (shapeOf (s .args .a)) ≤ length (now (s .args .labels)))
-room c = let z = size (c .before .before .before) in (omega (arith, c .before .if2 .left), omega (arith, c .if3 .left))
+room c =
+    let z = size (c .before .before .before) in
+    let a = c .before .before .before .before .before .before .before .before .before .before .args in (
+      omega (arith, c .before .if2 .left),
+      omega (
+        arith,
+        ltb-false (length (now (a .labels)))
+            (a .a .count + c .before .before .before .descendants-before .result) (c .if3 .left),
+      ),
+    )
 
 returns : tie.Need-returns
 returns c =
@@ -97,7 +107,9 @@ returns-3 c =
     let u = c .beside3 .ensures in
     rw (u .0) (
       room-refuses (a .a) (a .b) (length (now (a .parents))) (length (now (a .labels))) (sound (d .before .before .before)) _ (free (d .before))
-          (λ w. omega (arith, w .0, c .before .if2 .taken, size d)),
+          (λ w. ⊎-elim (λ q. omega (arith, w .0, q .taken, size d))
+          (λ q. omega (arith, w .1, ltb-true (length (now (a .labels))) (a .a .count + d .descendants-before .result) (q .1 .taken), size d))
+          (c .before .if2 .came)),
       u .1,
       refl,
       refl,
@@ -105,19 +117,6 @@ returns-3 c =
 
 returns-4 : tie.Need-returns-4
 returns-4 c =
-    let a = c .before .before .before .before .before .before .before .before .before .before .before .args in
-    let d = c .before .before .before .before in
-    let u = c .beside4 .ensures in
-    rw (u .0) (
-      room-refuses (a .a) (a .b) (length (now (a .parents))) (length (now (a .labels))) (sound (d .before .before .before)) _ (free (d .before))
-          (λ w. omega (arith, w .1, c .before .if3 .taken, size d)),
-      u .1,
-      refl,
-      refl,
-    )
-
-returns-5 : tie.Need-returns-5
-returns-5 c =
     let a = c .before .before .before .before .before .before .before .before .before .before .before .before .before .args in
     let d = c .before .before .before .before .before .before in
     let k = d .before .before .before .before in
@@ -141,14 +140,14 @@ own-node-requires : tie.Need-own-node-requires
 own-node-requires c κs = let v = sound (c .before .before .before .before .before .before .before .before .before .before .before .before .before .before
     .before) .0 in (v, v .output)
 
-returns-6 : tie.Need-returns-6
-returns-6 c =
+returns-5 : tie.Need-returns-5
+returns-5 c =
     let a = c .before .before .before .before .before .before .before .before .before .before .before .before .before .before .before .before .before .before
     .before .before .before .args in
     let e = c .before .before .before .before .before .before .before .before .before .before .before in
     let d = e .before .before .before in
     let k = d .before .before .before .before in
-    let u = c .beside5 .ensures in
+    let u = c .beside4 .ensures in
     let w = c .before .before .before .before .before .before .before .write-witness .ensures in
     let r = room e in
     let p = sound (d .before .before .before) in
@@ -170,6 +169,6 @@ returns-6 c =
 
 pub contains-spec : {M : Type 1} → statement M
 contains-spec = tie.close (tie.spec (λ c κs. search needs) (λ c. search needs) (λ c κs. search needs) returns fresh-requires (λ c κs. search needs)
-    returns-2 descendants-before-requires add-m (λ c κs. search needs) returns-3 (λ c κs. search needs) returns-4 (λ c. search needs) returns-5
+    returns-2 descendants-before-requires add-m (λ c κs. search needs) returns-3 (λ c. search needs) returns-4
     write-witness-requires (λ c. search needs) own-node-requires (λ c. search needs) (λ c κs. search needs) (λ c. search needs) (λ c. search needs)
-    returns-6)
+    returns-5)

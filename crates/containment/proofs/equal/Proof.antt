@@ -1,5 +1,6 @@
 -- `containment::equal` meets its contract: both patterns are checked, then each is sought in the other. Assumes nothing.
 use mathlib.Core.Path.{subst}
+use mathlib.Core.Logic.{⊎-elim}
 use lib.Dec.{T}
 use Rattle.tables.specs.Checks.{ChecksPattern}
 use Rattle.tables.specs.Pattern.{shapeOf, ValidPattern}
@@ -34,29 +35,24 @@ returns-2 c =
 within-requires : tie.Need-within-requires
 within-requires c κs = (valid (c .before .before .before), valid-2 c)
 
-returns-3 : tie.Need-returns-3
-returns-3 c =
-    let w = c .before .within in
-    ((valid (c .before .before .before .before .before), (valid-2 (c .before .before), tt)), λ e. failed (w .result) (c .if1 .taken) (w .ensures .1 (e .to)))
-
 within-requires-2 : tie.Need-within-requires-2
 within-requires-2 c κs =
     let v = valid (c .before .before .before .before .before) in
     let w = valid-2 (c .before .before) in
     search (needs, v, w)
 
-returns-4 : tie.Need-returns-4
-returns-4 c =
-    let a = c .before .before .before .before .before .before .before .before .before .before .args in
-    let w = c .before .within2 in
-    let back : Contained (shapeOf (a .b)) (shapeOf (a .a)) → T (w .result) = w .ensures .1 in (
-      (valid (c .before .before .before .before .before .before .before), (valid-2 (c .before .before .before .before), tt)),
-      λ e. failed (w .result)
-          (c .if2 .taken) (back (e .back)),
+returns-3 : tie.Need-returns-3
+returns-3 c =
+    let w = c .before .within in
+    let a = c .before .before .before .before .before .before .before .before .args in (
+      (valid (c .before .before .before .before .before), (valid-2 (c .before .before), tt)),
+      λ e. ⊎-elim (λ q. failed (w .result) (q .taken) (w .ensures .1 (e .to)))
+          (λ q. let back : Contained (shapeOf (a .b)) (shapeOf (a .a)) → T (q .1 .result) = q .1 .ensures .1 in
+          failed (q .1 .result) (q .2 .taken) (back (e .back))) (c .if1 .came),
     )
 
-returns-5 : tie.Need-returns-5
-returns-5 c =
+returns-4 : tie.Need-returns-4
+returns-4 c =
     let w = c .before .before .before .within in
     let b = c .before .within2 in (
       (valid (c .before .before .before .before .before .before .before), (valid-2 (c .before .before .before .before), tt)),
@@ -65,4 +61,4 @@ returns-5 c =
 
 pub equal-spec : {M : Type 1} → statement M
 equal-spec = tie.close (tie.spec (λ c κs. search needs) (λ c. search needs) returns (λ c. search needs) (λ c κs. search needs) (λ c. search needs)
-    returns-2 (λ c. search needs) within-requires returns-3 within-requires-2 returns-4 returns-5)
+    returns-2 (λ c. search needs) within-requires within-requires-2 returns-3 returns-4)

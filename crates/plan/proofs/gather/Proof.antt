@@ -85,7 +85,8 @@ loop-again c =
       ⊎-elim
           (λ w. rw (w .2) (among-skip 1 (x 1) (m .loop .descendant) t (λ e. omega (arith, w .0 .taken, e)) (i .7)))
           (λ w. rw (w .2, own) (among-more 1 (x 1) (m .loop .descendant) t (i .0)
-          (⊎-elim (λ e. absurd (w .0 .left e)) (λ e. e) (m .before .pre .0 .steps t (c .before .before .before .before .before .before .before .loop-test .taken) .axis)) (i .7)))
+          (⊎-elim (λ e. absurd (w .0 .left e)) (λ e. e) (m .before .pre .0 .steps t
+          (c .before .before .before .before .before .before .before .loop-test .taken) .axis)) (i .7)))
           (c .before .if1 .came),
       ⊎-elim
           (λ w. rw (w .1, own) (among-more 1 q (m .loop .next) t (i .0) (w .0 .taken) (i .8)))

@@ -11,7 +11,8 @@ use Rattle.plan.proofs.group.Statement.{statement}
 use Rattle.plan.proofs.group.Tie as tie
 
 abbrev Inv-loop : tie.InvT-loop
-Inv-loop children next n forks₀ later₀ k₀ s₀ forks later k s = (s ≤ n) × (k ≤ s) × (length forks ≡ 64) × (length later ≡ 64) × Groups children next s k forks later
+Inv-loop children next n forks₀ later₀ k₀ s₀ forks later k s = (s ≤ n) × (k ≤ s) × (length forks ≡ 64) × (length later ≡ 64) × Groups children next s k forks
+    later
 
 abbrev μ-loop : tie.MeasureT-loop
 μ-loop children next n forks₀ later₀ k₀ s₀ forks later k s = n - s
@@ -32,7 +33,8 @@ loop-again c =
       omega (arith, w .4),
       rw (w .2) (simp length-set (i .2)),
       rw (w .3) (simp length-set (i .3)),
-      rw (w .2, w .3, w .4, w .1 .ensures) (groups-more (now (s .children)) (s .next) (m .loop .s) (m .loop .k) forks later (i .4) _ refl (omega arith) (omega arith)),
+      rw (w .2, w .3, w .4, w .1 .ensures) (groups-more (now (s .children)) (s .next) (m .loop .s) (m .loop .k) forks later (i .4) _ refl (omega arith)
+          (omega arith)),
     ))
     (λ w. (
       omega arith,

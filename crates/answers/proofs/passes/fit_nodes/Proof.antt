@@ -14,7 +14,8 @@ use Rattle.answers.proofs.passes.fit_nodes.Tie as tie
 fit-turns-requires : tie.Need-fit-turns-requires
 fit-turns-requires c κs =
     let e = c .before .before .before .before .before .before .clear .ensures in
-    let s = c .before .before .before .before .before .before .before .before .before .before .before .before .before .before .before .before .before .before .before .before in
+    let s = c .before .before .before .before .before .before .before .before .before .before .before .before .before .before .before .before .before .before
+    .before .before in
     let n : ℕ = length (now (s .args .parents)) in (
       s .pre .1 .0,
       (

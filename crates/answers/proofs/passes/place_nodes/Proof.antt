@@ -21,7 +21,11 @@ returns c =
     let s = g .before .before .before .before .before .before in
     let A = shapeOf (s .args .p) in
     λ labels v r. c .before .before .before .before .place-turns .ensures A labels v
-    (record { sets-of = g .gather .ensures .0; down = spread-marks (Child (A .tree)) _ (g .gather .last .1 .0) _ (g .gather .ensures .1 .0) (k .spread .ensures) }) refl r
+    (record {
+      sets-of = g .gather .ensures .0;
+      down = spread-marks (Child (A .tree)) _ (g .gather .last .1 .0) _ (g .gather .ensures .1 .0)
+          (k .spread .ensures);
+    }) refl r
 
 pub place-nodes-spec : {M : Type 1} → statement M
 place-nodes-spec = tie.close (tie.spec (λ c κs. search needs) (λ c κs. search needs) (λ c. search needs) place-turns-requires (λ c. search needs)

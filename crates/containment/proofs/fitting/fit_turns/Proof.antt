@@ -30,8 +30,14 @@ abbrev μ-loop : tie.MeasureT-loop
 
 loop-holds : tie.Need-loop-holds Inv-loop μ-loop
 loop-holds c =
-    let v = c .pre .0 in
-    (omega (arith, v .some), omega arith, ap length (c .pre .1 .1), refl, λ B p o. rw (c .pre .1 .1) (risen-start _ _ _ _ (λ i l. (zeros-at 64 i, zeros-at 64 i))))
+    let v = c .pre .0 in (
+      omega (arith, v .some),
+      omega arith,
+      ap length (c .pre .1 .1),
+      refl,
+      λ B p o. rw (c .pre .1 .1)
+          (risen-start _ _ _ _ (λ i l. (zeros-at 64 i, zeros-at 64 i))),
+    )
 
 fits-requires : tie.Need-fits-requires Inv-loop μ-loop
 fits-requires c κs = c .before .before .before .before .pre .1 .0
@@ -40,7 +46,9 @@ along-requires : tie.Need-along-requires Inv-loop μ-loop
 along-requires c κs = tt
 
 -- a step's parent comes before it
-up : (c : tie.After-hand-up-arg2 Inv-loop μ-loop) → getD (c .before .before .before .before .before .before .before .before .before .before .args .t1 .parent) (c .before .before .before .before .before .before .before .before .before .loop .i - 1) 0 < c .before .before .before .before .before .before .before .before .before .loop .i - 1
+up : (c : tie.After-hand-up-arg2 Inv-loop μ-loop) → getD (c .before .before .before .before .before .before .before .before .before .before .args .t1 .parent)
+    (c .before .before .before .before .before .before .before .before .before .loop .i - 1) 0 < c .before .before .before .before .before .before .before
+    .before .before .loop .i - 1
 up c =
     let m = c .before .before .before .before .before .before .before .before .before in
     parent-lt (shape-ordered (m .before .pre .0)) (m .loop .i - 1) (omega arith) (omega arith)
@@ -70,7 +78,8 @@ loop-again c =
       λ B p e.
           let A = shapeOf (s .args .t1) in
           let u : Risen (rowsOf A) (FitsIn B A) (suc i) (entries (m .loop .fit)) (entries (m .loop .under)) = rw z (m .loop .inv .4 B p e) in
-          let f = step-fits B A (p .sets-of .valid) v i (eqb i (s .args .t1 .output .0)) _ _ l (o .says, o .test) u _ (c .before .before .before .before .before .before .fits2 .ensures B p e) in
+          let f = step-fits B A (p .sets-of .valid) v i (eqb i (s .args .t1 .output .0)) _ _ l (o .says, o .test) u _
+          (c .before .before .before .before .before .before .fits2 .ensures B p e) in
           risen-turn (rowsOf A) (FitsIn B A) (shape-ordered v) i _ _ _ _ _ _ _ (record { late = omega arith; here = l; up = refl }) u f
           (rw (c .before .before .before .before .along .ensures) (along (rowsOf A) (FitsIn B A) i _ (A .axis i) refl f)) (c .hand-up .ensures .1),
     )
