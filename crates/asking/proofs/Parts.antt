@@ -1,29 +1,17 @@
 -- Where the packets of an input begin and end, and what reading the document packet says of it. Assumes nothing.
-use Prim.Native.Nat.{ℕ, _+_, _*_, _-_, _≤_, _<_}
-use mathlib.Core.Path.{_≡_, sym, ap, ap₂, _∙_}
-use mathlib.Core.Logic.{inl, inr, ⊎-elim}
-use mathlib.Core.List.{List, [], _∷_, _++_}
+use Prim.Native.Nat.{ℕ, _+_, _-_, _≤_, _<_}
+use mathlib.Core.Path.{_≡_, sym, ap, _∙_}
+use mathlib.Core.List.{List}
 use native.Mathlib.Omega.{arith}
 use native.Mathlib.Decide.{decLt}
-use lib.ListN.{length, getD, take, drop, length-drop}
-use lib.Seq.{take-all, take-at, length-take-le}
-use Rattle.tables.specs.Document.{documentOf}
-use Rattle.tables.specs.Pattern.{patternOf, ValidShape, ValidPattern}
-use Rattle.tables.specs.Refusal.{Check, Passes, Refuses}
+use lib.ListN.{length, take, drop, length-drop}
+use lib.Seq.{take-all, length-take-le}
+use Rattle.tables.specs.Refusal.{Passes, Refuses}
 use Rattle.tables.specs.declared.Refusal.{Refusal}
-use Rattle.tables.proofs.Agreement.{valid-agree}
-use Rattle.tables.proofs.Columns.{column-length}
-use Rattle.tables.proofs.Rules.{pattern-of-shape, agree-sym}
+use Rattle.tables.proofs.Outcomes.{last-holds}
 use Rattle.packets.specs.Bytes.{half}
-use Rattle.packets.specs.PatternPacket.{packetShape}
-use Rattle.packets.specs.DocumentPacket.{nodesIn, packetDocument, documentChecks, documentRules}
+use Rattle.packets.specs.DocumentPacket.{nodesIn, documentChecks, documentRules}
 use Rattle.asking.specs.Parts.{packetAt, nextAt}
-
--- the length field, as its two bytes are read
-pub next-field : (bs : List ℕ) (o h : ℕ) → h ≡ getD bs (o + 1) 0 * 256 + getD bs (o + 2) 0 → h ≡ half bs (o + 1)
-next-field bs o h e =
-    let f : o + 1 + 1 ≡ o + 2 = omega arith in
-    rw f e
 
 -- the input ends before the packet does, or with it
 pub next-cut : (bs : List ℕ) (o : ℕ) → o ≤ length bs → length bs - o ≤ half bs (o + 1) + 3 → length bs ≡ nextAt bs o
@@ -70,11 +58,6 @@ first-part bs = ap (λ k. take k bs) {x = nextAt bs 0} {y = length (take (half b
 pub nodes-few : (bs : List ℕ) → Passes (documentRules bs) → nodesIn bs ≤ 2048
 nodes-few bs p = let z = p .1 .1 .0 in omega (arith, z .1 .field, z .1 .few)
 
--- a last check that always holds refuses nothing
-last-holds : (cs : List Check) (c : Check) (r : Refusal) → (Passes cs → c .asks) → Refuses (cs ++ (c ∷ [])) r → Refuses cs r
-last-holds [] c r f h = ⊎-elim (λ w. w .0 (f tt)) (λ w. w .1) h
-last-holds (d ∷ ds) c r f h = ⊎-elim inl (λ w. inr (w .0, last-holds ds c r (λ p. f (w .0, p)) (w .1))) h
-
 -- so lists of 2,048 entries have room for it, and reading refuses by its rules alone
 pub rules-refuse : (bs : List ℕ) (a b : ℕ) (r : Refusal) → 2048 ≤ a → 2048 ≤ b → Refuses (documentChecks bs a b) r → Refuses (documentRules bs) r
 rules-refuse bs a b r l m h =
@@ -83,15 +66,3 @@ rules-refuse bs a b r l m h =
 
 pub rules-pass : (bs : List ℕ) (a b : ℕ) → Passes (documentChecks bs a b) → Passes (documentRules bs)
 rules-pass bs a b p = (p .0, (p .1 .0, (p .1 .1 .0, (p .1 .1 .1 .0, tt))))
-
--- the fronts of the two lists that reading filled are the document
-pub fronts : (bs xs ys d e : List ℕ) (n : ℕ) → n ≡ nodesIn bs → xs ≡ packetDocument bs .parents ++ d → ys ≡ packetDocument bs .labels ++ e
-    → documentOf (take n xs) (take n ys) ≡ packetDocument bs
-unfolding packetDocument
-fronts bs xs ys d e n h f g = ap₂ (λ x y. documentOf x y)
-    (ap (take n) f ∙ take-at (packetDocument bs .parents) d n (column-length (λ i. half bs (3 + 4 * i)) (nodesIn bs) ∙ sym h))
-    (ap (take n) g ∙ take-at (packetDocument bs .labels) e n (column-length (λ i. half bs (5 + 4 * i)) (nodesIn bs) ∙ sym h))
-
--- the pattern of a packet that is right obeys the rules
-pub packet-valid : (bs : List ℕ) → ValidShape (packetShape bs) → ValidPattern (patternOf (packetShape bs))
-packet-valid bs v = valid-agree (agree-sym (pattern-of-shape (packetShape bs))) v

@@ -5,7 +5,7 @@ use mathlib.Core.List.{List}
 use lib.ListN.{length, take, replicate}
 use native.Mathlib.Omega.{arith}
 use Rattle.tables.specs.Document.{Document, ValidDocument}
-use Rattle.tables.specs.Pattern.{patternOf, zeroPattern, ValidPattern}
+use Rattle.tables.specs.Pattern.{zeroPattern, ValidPattern}
 use Rattle.tables.specs.Refusal.{number, Passes, Refuses, Decided}
 use Rattle.tables.specs.declared.Pattern.{Pattern}
 use Rattle.tables.specs.declared.Checked.{Checked}
@@ -13,19 +13,20 @@ use Rattle.tables.specs.declared.Checked.the-variants as checked
 use Rattle.tables.specs.declared.Counted.{Counted}
 use Rattle.tables.specs.declared.Counted.the-variants as counted
 use Rattle.tables.specs.declared.Refusal.{Refusal}
-use Rattle.packets.specs.PatternPacket.{packetShape, patternChecks}
+use Rattle.packets.specs.PatternPacket.{packetPattern, patternChecks}
 use Rattle.packets.specs.DocumentPacket.{ReadsDocument, documentRules}
+use Rattle.packets.proofs.Views.{read-of, read-document-of}
 use Rattle.asking.specs.Text.{documentWord, viewWord, queryWord, inputWord, refusedLine}
 use Rattle.asking.specs.Parts.{packetAt, nextAt, documentPart}
 use Rattle.asking.specs.Replies.{documentIn, document, view, query, extra, answered, Printed}
 use Rattle.asking.specs.inner.Writing.{Wrote}
 use Rattle.asking.specs.inner.Answering.{WroteAnswers}
-use Rattle.asking.proofs.Parts.{first-part, rules-refuse, packet-valid}
+use Rattle.asking.proofs.Parts.{first-part, rules-refuse}
 use Rattle.asking.proofs.Answering.{printed}
 
 -- reading the pattern packet at byte o answers z, with the pattern p
 abbrev pub ReadAt : List ℕ → ℕ → Checked → Pattern → Type 0
-ReadAt bs o z p = Decided (patternChecks (packetAt bs o)) z (p ≡ patternOf (packetShape (packetAt bs o))) (p ≡ zeroPattern)
+ReadAt bs o z p = Decided (patternChecks (packetAt bs o)) z (p ≡ packetPattern (packetAt bs o)) (p ≡ zeroPattern)
 
 -- reading the document packet into two lists of 2,048 entries
 abbrev pub DocumentRead : List ℕ → Counted → List ℕ → List ℕ → Type 0
@@ -38,11 +39,11 @@ document-read bs a r ps ls e h = subst (λ l. ReadsDocument l (replicate 2048 0)
 
 -- a pattern that was read obeys the rules
 pub read-valid : (bs : List ℕ) (o : ℕ) (p : Pattern) → ReadAt bs o checked.Right p → ValidPattern p
-read-valid bs o p h = subst ValidPattern (sym (h .1)) (packet-valid (packetAt bs o) (h .0 .1 .1 .1 .0))
+read-valid bs o p h = subst ValidPattern (sym (h .1)) (read-of (packetAt bs o) (h .0) .right)
 
 -- so does a document
 pub rules-valid : (bs : List ℕ) (d : Document) → Passes (documentRules (documentPart bs)) → d ≡ documentIn bs → ValidDocument d
-rules-valid bs d p e = subst ValidDocument (sym e) (p .1 .1 .1 .0)
+rules-valid bs d p e = subst ValidDocument (sym e) (read-document-of (documentPart bs) p .right)
 
 module _ (bs : List ℕ) where
   -- the document packet is refused
@@ -90,6 +91,6 @@ module _ (bs : List ℕ) where
         pub all-answered : {before : List ℕ} {s : ℕ} {after : List ℕ} (d : Document) → d ≡ documentIn bs → length bs ≤ n → WroteAnswers d Q U before s after →
             Printed bs before s after
         all-answered d c l w =
-            let v = u .1 ∙ ap (λ o. patternOf (packetShape (packetAt bs o))) e in
-            let z = q .1 ∙ ap (λ o. patternOf (packetShape (packetAt bs o))) at-query in
+            let v = u .1 ∙ ap (λ o. packetPattern (packetAt bs o)) e in
+            let z = q .1 ∙ ap (λ o. packetPattern (packetAt bs o)) at-query in
             printed (answered ((p, view-passes), query-passes) (omega (arith, at-end, l)) (rw (c, z, v) at (w .answered))) (w .wrote)

@@ -9,13 +9,13 @@ use mathlib.Core.Path.{_≡_}
 use mathlib.Core.List.{List, [], _∷_, _++_}
 use lib.ListN.{length, drop}
 use Rattle.tables.specs.Document.{Document}
-use Rattle.tables.specs.Pattern.{shapeOf, patternOf, zeroPattern}
+use Rattle.tables.specs.Pattern.{shapeOf, zeroPattern}
 use Rattle.tables.specs.Refusal.{number, Passes, Refuses, CountedBy}
 use Rattle.tables.specs.declared.Pattern.{Pattern}
 use Rattle.tables.specs.declared.Counted.{Counted}
 use Rattle.tables.specs.declared.Refusal.{Refusal}
 use Rattle.tables.specs.declared.Refusal.the-variants.{TooLarge}
-use Rattle.packets.specs.PatternPacket.{packetShape, patternChecks}
+use Rattle.packets.specs.PatternPacket.{packetPattern, patternChecks}
 use Rattle.packets.specs.DocumentPacket.{packetDocument, documentRules}
 use Rattle.placing.specs.Answer.{Answer, Started, In, Lists}
 use Rattle.rewriting.specs.Rewriting.{AnswersRewriting}
@@ -49,11 +49,11 @@ documentIn bs = packetDocument (documentPart bs)
 
 -- the view of an input
 abbrev pub viewIn : List ℕ → Pattern
-viewIn bs = patternOf (packetShape (viewPart bs))
+viewIn bs = packetPattern (viewPart bs)
 
 -- the query of an input
 abbrev pub queryIn : List ℕ → Pattern
-queryIn bs = patternOf (packetShape (queryPart bs))
+queryIn bs = packetPattern (queryPart bs)
 
 -- the document packet and the view packet are right
 abbrev pub ViewRight : List ℕ → Type 0

@@ -38,7 +38,7 @@ fn next_at(input: &[u8], o: usize) -> usize
     if left < 3 {
         return input.len();
     }
-    let size = packets::half_of(input[o + 1], input[o + 2]) as usize + 3;
+    let size = packets::bytes::get_half(input, o + 1) as usize + 3;
     if left < size {
         return input.len();
     }

@@ -1,13 +1,13 @@
 -- Document packets there and back: what is written reads as the same document, what is read writes as the same bytes, and no second
--- result of reading fits. Assumes nothing.
+-- result of reading or of writing fits. Assumes nothing.
 use Prim.Native.Nat.{ℕ, _+_, _*_, _<_, _≤_}
 use mathlib.Core.Path.{_≡_, refl, sym, ap, ap₂, _∙_, subst}
-use mathlib.Core.List.{List, [], _∷_, _++_}
+use mathlib.Core.List.{List, [], _∷_}
 use native.Mathlib.Omega.{arith}
-use lib.ListN.{length, getD, drop}
+use lib.ListN.{length, getD}
 use Rattle.tables.specs.Column.{blocks, column}
 use Rattle.tables.specs.Document.{Document, nodeCount, ValidDocument, documentOf}
-use Rattle.tables.specs.Refusal.{Check, Passes, CountedBy}
+use Rattle.tables.specs.Refusal.{Check, Passes}
 use Rattle.tables.specs.declared.Counted.{Counted}
 use Rattle.tables.proofs.Columns.{blocks-ext, column-length, column-at, column-ext, column-self}
 use Rattle.tables.proofs.Refusals.{counted-unique}
@@ -17,21 +17,23 @@ use Rattle.packets.specs.DocumentPacket.{
   documentPacket,
   nodesIn,
   packetDocument,
-  DocumentSized,
   documentChecks,
   nodeChecks,
   ReadsBy,
   ReadsNodes,
   ReadsDocument,
+  putChecks,
+  WritesDocument,
 }
+use Rattle.packets.specs.Header.{Sized}
 use Rattle.packets.proofs.Halves.{half-of-bytes, high-half, low-half, packet-length, packet-half, four, packet-self}
 use Rattle.tables.proofs.Outcomes.{counted-both}
 
 -- the three bytes before the nodes
-abbrev head : Document → List ℕ
+abbrev pub head : Document → List ℕ
 head d = 1 ∷ high (4 * nodeCount d) ∷ low (4 * nodeCount d) ∷ []
 
-node-four : (d : Document) (i : ℕ) → length (nodeBytes d i) ≡ 4
+pub node-four : (d : Document) (i : ℕ) → length (nodeBytes d i) ≡ 4
 unfolding nodeBytes
 node-four d i = refl
 
@@ -67,9 +69,15 @@ document-written-then-read {d} v =
     (λ i l. node-half d i 2 (5 + 4 * i) (omega arith) (omega arith) (omega arith) ∙ half-of-bytes (getD (d .labels) i 0)))
 
 -- the packet of a valid document has the length that it says
-pub document-packet-sized : {d : Document} → ValidDocument d → DocumentSized (documentPacket d) (nodeCount d)
+pub document-packet-sized : {d : Document} → ValidDocument d → Sized (documentPacket d) 0 2048 (nodeCount d)
 unfolding documentPacket
-document-packet-sized {d} v = record { some = v .some; few = v .few; field = half-of-bytes (4 * nodeCount d); present = document-packet-length d }
+document-packet-sized {d} v = record {
+  some = v .some;
+  few = v .few;
+  field = half-of-bytes (4 * nodeCount d) ∙ omega arith;
+  present = document-packet-length d
+      ∙ omega arith;
+}
 
 -- the packet of a valid document passes every check, where both lists have room
 pub document-packet-passes : {d : Document} → ValidDocument d → (a b : ℕ) → nodeCount d ≤ a → nodeCount d ≤ b → Passes (documentChecks (documentPacket d) a b)
@@ -80,7 +88,7 @@ document-packet-passes {d} v a b f g =
     (omega (arith, document-packet-length d), (refl, ((nodeCount d, document-packet-sized v), (r, ((omega arith, omega arith), tt)))))
 
 -- the number of nodes in the checks is the one that is read
-pub document-sized-unique : {bs : List ℕ} {n : ℕ} → DocumentSized bs n → n ≡ nodesIn bs
+pub document-sized-unique : {bs : List ℕ} {n : ℕ} → Sized bs 0 2048 n → n ≡ nodesIn bs
 document-sized-unique z = omega (arith, z .field)
 
 -- the bytes of node i are the four at its place
@@ -99,11 +107,11 @@ node-read bs h i l =
     )
 
 -- bytes of the right version and length are the packet of the document that they are read as
-pub document-read-then-written : (bs : List ℕ) → Bytes bs → (n : ℕ) → DocumentSized bs n → getD bs 0 0 ≡ 1 → documentPacket (packetDocument bs) ≡ bs
+pub document-read-then-written : (bs : List ℕ) → Bytes bs → (n : ℕ) → Sized bs 0 2048 n → getD bs 0 0 ≡ 1 → documentPacket (packetDocument bs) ≡ bs
 unfolding documentPacket packetDocument blocks
 document-read-then-written bs h n z w =
     let q : n ≡ nodesIn bs = document-sized-unique z in
-    let l : 4 * n ≡ half bs 1 = sym (z .field) in
+    let l : 4 * n ≡ half bs 1 = omega (arith, z .field) in
     cc (
       column-length (λ i. half bs (3 + 4 * i)) (nodesIn bs),
       high-half bs h 1,
@@ -130,3 +138,10 @@ pub reads-document-unique : (bs parents₀ labels₀ : List ℕ) (r q : Counted)
     → ReadsDocument bs parents₀ labels₀ r parents labels → ReadsDocument bs parents₀ labels₀ q parents′ labels′ → (r ≡ q) × (parents ≡ parents′) ×
     (labels ≡ labels′)
 reads-document-unique bs parents₀ labels₀ = reads-by-unique (documentChecks bs (length parents₀) (length labels₀)) bs parents₀ labels₀
+
+-- nor of writing it
+pub writes-document-unique : (d : Document) (before : List ℕ) (r q : Counted) (after after′ : List ℕ)
+    → WritesDocument d before r after → WritesDocument d before q after′ → (r ≡ q) × (after ≡ after′)
+writes-document-unique d before r q after after′ h k =
+    let cs : List Check = putChecks d (length before) in
+    (counted-unique cs r q _ _ _ _ (λ c e x y. x .0 ∙ sym (y .0)) h k, counted-both cs r q (λ c e x y. cc) (λ x y. cc) h k)

@@ -1,5 +1,7 @@
 -- Laws of packets. Assumes nothing.
 pub mod Halves
+pub mod Rows
+pub mod Views
 pub mod PatternTrip
 pub mod Reading
 pub mod RoundTrip

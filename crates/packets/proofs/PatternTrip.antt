@@ -14,7 +14,7 @@ use Rattle.tables.specs.declared.Pattern.{Pattern}
 use Rattle.tables.specs.declared.Counted.{Counted}
 use Rattle.tables.proofs.Columns.{blocks-ext}
 use Rattle.tables.proofs.Trees.{parent-lt}
-use Rattle.tables.proofs.Rules.{Agree, shape-ordered, pattern-of-shape, agree-sym, pattern-of-agree}
+use Rattle.tables.proofs.Rules.{Agree, shape-ordered, pattern-of-shape, agree-sym, agree-trans, pattern-of-agree}
 use Rattle.tables.proofs.Refusals.{decided-unique, counted-unique}
 use Rattle.packets.specs.Bytes.{Bytes, high, low, half}
 use Rattle.packets.specs.PatternPacket.{
@@ -22,13 +22,15 @@ use Rattle.packets.specs.PatternPacket.{
   stepBytes,
   patternPacket,
   packetShape,
-  PatternSized,
+  packetPattern,
   patternChecks,
   ReadsPattern,
   writeChecks,
   WritesPattern,
 }
+use Rattle.packets.specs.Header.{Sized}
 use Rattle.packets.specs.declared.PatternRead.{PatternRead}
+use Rattle.packets.proofs.Views.{Read}
 use Rattle.packets.proofs.Halves.{
   half-of-bytes,
   high-half,
@@ -99,27 +101,28 @@ packet-shape-of-packet {A} v = record {
 }
 
 -- the packet of a valid pattern has the length that it says
-pub pattern-packet-sized : {A : Shape} → ValidShape A → PatternSized (patternPacket A) (A .tree .size)
+pub pattern-packet-sized : {A : Shape} → ValidShape A → Sized (patternPacket A) 1 64 (A .tree .size)
 unfolding patternPacket
 pattern-packet-sized {A} v = record { some = v .some; few = v .few; field = half-of-bytes (patternLength (A .tree .size)); present = pattern-packet-length A }
+
+-- a pattern that is written and read again has the table of its shape
+pub written-then-read-any : (p : Pattern) → ValidPattern p → packetPattern (patternPacket (shapeOf p)) ≡ patternOf (shapeOf p)
+written-then-read-any p v = pattern-of-agree (packet-shape-of-packet v)
+
+-- so a clean pattern is read as it was
+pub written-then-read : (p : Pattern) → ValidPattern p → Clean p → packetPattern (patternPacket (shapeOf p)) ≡ p
+written-then-read p v c = written-then-read-any p v ∙ c
 
 -- the packet of a valid pattern passes every check
 pub pattern-packet-passes : {A : Shape} → ValidShape A → Passes (patternChecks (patternPacket A))
 unfolding patternPacket
 pattern-packet-passes {A} v =
-    let r : ValidShape (packetShape (patternPacket A)) = valid-agree (agree-sym (packet-shape-of-packet v)) v in
+    let r : ValidPattern (packetPattern (patternPacket A)) =
+    valid-agree (agree-sym (agree-trans (pattern-of-shape (packetShape (patternPacket A))) (packet-shape-of-packet v))) v in
     (omega (arith, pattern-packet-length A), (refl, ((A .tree .size, pattern-packet-sized v), (r, tt))))
 
--- a pattern that is written and read again has the table of its shape
-pub written-then-read-any : (p : Pattern) → ValidPattern p → patternOf (packetShape (patternPacket (shapeOf p))) ≡ patternOf (shapeOf p)
-written-then-read-any p v = pattern-of-agree (packet-shape-of-packet v)
-
--- so a clean pattern is read as it was
-pub written-then-read : (p : Pattern) → ValidPattern p → Clean p → patternOf (packetShape (patternPacket (shapeOf p))) ≡ p
-written-then-read p v c = written-then-read-any p v ∙ c
-
 -- the number of steps in the checks is the one that is read
-pub sized-unique : {bs : List ℕ} {n : ℕ} → PatternSized bs n → n ≡ half bs 1 / 4
+pub sized-unique : {bs : List ℕ} {n : ℕ} → Sized bs 1 64 n → n ≡ half bs 1 / 4
 sized-unique z = omega (arith, z .field)
 
 -- shapes that agree have one packet
@@ -137,7 +140,7 @@ step-read bs h s =
     cc (high-half bs h (6 + 4 * s), low-half bs h (6 + 4 * s))
 
 -- bytes of the right version and length are the packet of their shape
-packet-of-shape : (bs : List ℕ) → Bytes bs → (n : ℕ) → PatternSized bs n → getD bs 0 0 ≡ 1 → patternPacket (packetShape bs) ≡ bs
+packet-of-shape : (bs : List ℕ) → Bytes bs → (n : ℕ) → Sized bs 1 64 n → getD bs 0 0 ≡ 1 → patternPacket (packetShape bs) ≡ bs
 unfolding patternPacket packetShape blocks
 packet-of-shape bs h n z w =
     let l : patternLength n ≡ half bs 1 = sym (z .field) in
@@ -150,8 +153,9 @@ packet-of-shape bs h n z w =
     )
 
 -- bytes that pass are the packet of the pattern that they are read as
-pub read-then-written : (bs : List ℕ) → Bytes bs → Passes (patternChecks bs) → patternPacket (shapeOf (patternOf (packetShape bs))) ≡ bs
-read-then-written bs h p = pattern-packet-agree (pattern-of-shape (packetShape bs)) ∙ packet-of-shape bs h (p .1 .1 .0 .0) (p .1 .1 .0 .1) (p .1 .0)
+pub read-then-written : (bs : List ℕ) → Bytes bs → Read bs → patternPacket (shapeOf (packetPattern bs)) ≡ bs
+read-then-written bs h r =
+    pattern-packet-agree (pattern-of-shape (packetShape bs)) ∙ packet-of-shape bs h (r .head .rows) (r .head .sized) (r .head .version)
 
 -- no second result of reading fits
 pub reads-pattern-unique : (bs : List ℕ) (r q : PatternRead) → ReadsPattern bs r → ReadsPattern bs q → r ≡ q

@@ -5,14 +5,15 @@ use mathlib.Core.Path.{_≡_, sym, ap, _∙_, subst}
 use mathlib.Core.List.{List}
 use lib.ListN.{length, take, drop}
 use lib.Seq.{take-at}
-use Rattle.tables.specs.Pattern.{shapeOf, patternOf, zeroPattern, ValidPattern, Clean}
+use Rattle.tables.specs.Pattern.{shapeOf, zeroPattern, ValidPattern, Clean}
 use Rattle.tables.specs.Refusal.{Decided}
 use Rattle.tables.specs.declared.Pattern.{Pattern}
 use Rattle.tables.specs.declared.Checked.the-variants.{Right}
 use Rattle.tables.specs.declared.Counted.the-variants.{Count}
 use Rattle.packets.specs.Bytes.{Bytes}
-use Rattle.packets.specs.PatternPacket.{patternPacket, packetShape, patternChecks, ReadsPattern, WritesPattern}
+use Rattle.packets.specs.PatternPacket.{patternPacket, packetPattern, patternChecks, ReadsPattern, WritesPattern}
 use Rattle.packets.specs.declared.PatternRead.{PatternRead}
+use Rattle.packets.proofs.Views.{read-of}
 use Rattle.packets.proofs.PatternTrip.{pattern-packet-length, pattern-packet-passes, read-then-written, written-then-read, reads-pattern-unique}
 
 -- the bytes that writing counts are the packet
@@ -24,8 +25,8 @@ written-front p before after c w =
 pub read-then-write : (bs : List ℕ) (r : PatternRead) (before after : List ℕ) (c : ℕ) → Bytes bs → ReadsPattern bs r → r .answer ≡ Right
     → WritesPattern (r .pattern) before (Count c) after → (take c after ≡ bs) × (c ≡ length bs)
 read-then-write bs r before after c b h e w =
-    let d = subst (λ a. Decided (patternChecks bs) a (r .pattern ≡ patternOf (packetShape bs)) (r .pattern ≡ zeroPattern)) e h in
-    let same : patternPacket (shapeOf (r .pattern)) ≡ bs = ap (λ p. patternPacket (shapeOf p)) (d .1) ∙ read-then-written bs b (d .0) in
+    let d = subst (λ a. Decided (patternChecks bs) a (r .pattern ≡ packetPattern bs) (r .pattern ≡ zeroPattern)) e h in
+    let same : patternPacket (shapeOf (r .pattern)) ≡ bs = ap (λ p. patternPacket (shapeOf p)) (d .1) ∙ read-then-written bs b (read-of bs (d .0)) in
     (written-front (r .pattern) before after c w ∙ same, w .1 .0 ∙ sym (pattern-packet-length (shapeOf (r .pattern))) ∙ ap length same)
 
 -- a pattern that is written, and the bytes read, gives the same pattern

@@ -1,25 +1,30 @@
--- Document packets: their bytes, what they are read as, and the call that reads one (docs/RULES.md, "Document packets").
+-- Document packets: their bytes, what they are read as, and the calls (docs/RULES.md, "Document packets").
 --   nodeBytes       the bytes of a node
 --   documentPacket  the bytes of a document
 --   nodesIn         how many nodes a packet's length field stands for
 --   packetDocument  the document that bytes are read as
---   DocumentSized   the length field is right
+--   listsCheck      the room of the two lists
+--   documentRules   what a right packet is checked for, in order
 --   documentChecks  what reading checks, in order
---   documentRules   the same but for the room
 --   nodeChecks      the same but for the rules
 --   ReadsBy         what reading by given checks answers and leaves in the two lists
 --   ReadsNodes      reading without the rules
 --   ReadsDocument   reading with them
+--   sizeOf          the length of a document's packet
+--   putChecks       what writing checks, in order
+--   WritesDocument  what writing answers and leaves in the buffer
 -- Assumes nothing.
 use Prim.Native.Nat.{ℕ, _+_, _*_, _/_, _≤_}
 use mathlib.Core.Path.{_≡_}
 use mathlib.Core.List.{List, [], _∷_, _++_}
-use lib.ListN.{length, getD, take, drop}
+use lib.ListN.{length, getD, drop}
 use Rattle.tables.specs.Column.{blocks, column}
-use Rattle.tables.specs.Document.{Document, nodeCount, ValidDocument, documentOf}
+use Rattle.tables.specs.Checks.{documentRight, roomFor}
+use Rattle.tables.specs.Document.{Document, nodeCount, documentOf}
 use Rattle.tables.specs.Refusal.{Check, CountedBy}
 use Rattle.tables.specs.declared.Counted.{Counted}
 use Rattle.packets.specs.Bytes.{high, low, half}
+use Rattle.packets.specs.Header.{headChecks}
 
 -- the four bytes of node i
 unfoldable pub nodeBytes : Document → ℕ → List ℕ
@@ -38,27 +43,21 @@ nodesIn bs = half bs 1 / 4
 unfoldable pub packetDocument : List ℕ → Document
 packetDocument bs = documentOf (column (λ i. half bs (3 + 4 * i)) (nodesIn bs)) (column (λ i. half bs (5 + 4 * i)) (nodesIn bs))
 
--- the length field is one of those allowed, and agrees with the bytes present
-pub record DocumentSized (bs : List ℕ) (n : ℕ) : Type 0 where
-  pub some : 1 ≤ n
-  pub few : n ≤ 2048
-  pub field : half bs 1 ≡ 4 * n
-  pub present : length bs ≡ 4 * n + 3
+-- room for a packet's nodes in lists of a and b entries
+abbrev pub listsCheck : List ℕ → ℕ → ℕ → List Check
+listsCheck bs a b = record { asks = (nodesIn bs ≤ a) × (nodesIn bs ≤ b); gives = 5 } ∷ []
 
--- reading a document packet into lists of a and b entries: fewer than 3 bytes, the version, the rest of the length, the rules, the room
-abbrev pub documentChecks : List ℕ → ℕ → ℕ → List Check
-documentChecks bs a b =
-    record { asks = 3 ≤ length bs; gives = 2 } ∷ record { asks = getD bs 0 0 ≡ 1; gives = 1 }
-    ∷ record { asks = (n : ℕ) × DocumentSized bs n; gives = 2 } ∷ record { asks = ValidDocument (packetDocument bs); gives = 4 }
-    ∷ record { asks = (nodesIn bs ≤ a) × (nodesIn bs ≤ b); gives = 5 } ∷ []
-
--- the same but for the room
+-- a document packet that is right: its header, for 1 to 2,048 nodes, and the rules
 abbrev pub documentRules : List ℕ → List Check
-documentRules bs = take 4 (documentChecks bs 0 0)
+documentRules bs = headChecks bs 0 2048 ++ documentRight (packetDocument bs)
 
--- the same but for the rules
+-- reading a document packet into two lists: that, and the room
+abbrev pub documentChecks : List ℕ → ℕ → ℕ → List Check
+documentChecks bs a b = documentRules bs ++ listsCheck bs a b
+
+-- reading without the rules: the header and the room
 abbrev pub nodeChecks : List ℕ → ℕ → ℕ → List Check
-nodeChecks bs a b = take 3 (documentChecks bs a b) ++ drop 4 (documentChecks bs a b)
+nodeChecks bs a b = headChecks bs 0 2048 ++ listsCheck bs a b
 
 -- the nodes stand at the front of both lists and are counted where these checks hold; a refusal leaves both lists as they were
 abbrev pub ReadsBy : List Check → List ℕ → List ℕ → List ℕ → Counted → List ℕ → List ℕ → Type 0
@@ -74,3 +73,16 @@ ReadsNodes bs parents₀ labels₀ = ReadsBy (nodeChecks bs (length parents₀) 
 -- reading with them
 abbrev pub ReadsDocument : List ℕ → List ℕ → List ℕ → Counted → List ℕ → List ℕ → Type 0
 ReadsDocument bs parents₀ labels₀ = ReadsBy (documentChecks bs (length parents₀) (length labels₀)) bs parents₀ labels₀
+
+-- the length of a document's packet
+abbrev pub sizeOf : Document → ℕ
+sizeOf d = 4 * nodeCount d + 3
+
+-- writing a document into a buffer of m bytes: the rules, then the room
+abbrev pub putChecks : Document → ℕ → List Check
+putChecks d m = documentRight d ++ roomFor (sizeOf d) m
+
+-- writing puts the packet at the front of the buffer and counts its bytes; a refusal leaves the buffer as it was
+abbrev pub WritesDocument : Document → List ℕ → Counted → List ℕ → Type 0
+WritesDocument d before r after =
+    CountedBy (putChecks d (length before)) r (λ c. (c ≡ sizeOf d) × (after ≡ documentPacket d ++ drop c before)) (after ≡ before)

@@ -1,15 +1,18 @@
 // Packets of patterns and of documents (docs/RULES.md, "Packets").
-ghost use Prim.Native.Nat.{ℕ, _+_, _*_, _/_, _≤_, _<_};
+ghost use Prim.Native.Nat.{_+_, _*_, _/_, _≤_, _<_};
 ghost use mathlib.Core.Path.{_≡_};
 ghost use mathlib.Core.List.{[], _∷_, _++_};
 ghost use lib.ListN.{length, take, drop};
-ghost use Rattle.tables.specs.Column.{column};
-ghost use Rattle.tables.specs.Pattern.{shapeOf, patternOf};
+ghost use Rattle.tables.specs.Document.{documentOf};
+ghost use Rattle.tables.specs.Pattern.{shapeOf};
 ghost use Rattle.tables.specs.Refusal.{CountedBy};
-ghost use Rattle.tables.specs.declared.Refusal.the-variants.{Length};
-ghost use Rattle.packets.specs.Bytes.{half};
-ghost use Rattle.packets.specs.PatternPacket.{patternPacket, packetShape, patternLength, patternChecks, ReadsPattern, WritesPattern};
-ghost use Rattle.packets.specs.DocumentPacket.{ReadsNodes, ReadsDocument};
+ghost use Rattle.packets.specs.Bytes.{high, low, half};
+ghost use Rattle.packets.specs.Header.{headChecks};
+ghost use Rattle.packets.specs.PatternPacket.{patternPacket, packetPattern, ReadsPattern, ReadsTwo, lengthOf, WritesPattern};
+ghost use Rattle.packets.specs.DocumentPacket.{documentPacket, ReadsNodes, ReadsDocument, sizeOf, WritesDocument};
+
+pub mod bytes;
+
 use tables::Checked;
 use tables::Counted;
 use tables::Pattern;
@@ -22,40 +25,18 @@ pub struct PatternRead {
     pub pattern: Pattern,
 }
 
-// A byte as a 16-bit number.
-fn wide(x: u8) -> u16
-    ensures { λ r. ⌜ (r ≡ x) × (r < 256) ⌝ }
-{
-    x as u16
-}
-
-// The 16-bit number of two bytes, high byte first.
-pub fn half_of(high: u8, low: u8) -> u16
-    ensures { λ r. ⌜ r ≡ high * 256 + low ⌝ }
-{
-    wide(high) * 256 + wide(low)
-}
-
-// The 16-bit number at byte o, high byte first.
-fn half_at(s: &[u8], o: usize) -> u16
-    requires { ⌜ o + 1 < length (now s) ⌝ }
-    ensures { λ r. ⌜ r ≡ half (now (s .entry)) o ⌝ }
-{
-    half_of(s[o], s[o + 1])
+// What reading two pattern packets gives: the answer for both, and beside it both patterns.
+pub struct TwoRead {
+    pub answer: Checked,
+    pub first: Pattern,
+    pub second: Pattern,
 }
 
 // How many rows of four bytes a packet has, `most` at most, with `extra` bytes between its header and them. Both kinds of packet start with the
 // same two checks. Refused by Length, Version, Length, in this order.
 fn rows_in(s: &[u8], extra: usize, most: usize) -> Counted
     requires { ⌜ extra < 4 ⌝ }
-    ensures { λ r.
-        ⌜ CountedBy (take 2 (patternChecks (now (s .entry)))
-        ++ (record {
-          asks = (n : ℕ) × (1 ≤ n) × (n ≤ most) × (half (now (s .entry)) 1 ≡ extra + 4 * n)
-              × (length (now (s .entry)) ≡ half (now (s .entry)) 1 + 3);
-          gives = 2;
-        } ∷ []))
-        r (λ n. n ≡ half (now (s .entry)) 1 / 4) (Unit {0}) ⌝ }
+    ensures { λ r. ⌜ CountedBy (headChecks (now (s .entry)) extra most) r (λ n. n ≡ half (now (s .entry)) 1 / 4) (Unit {0}) ⌝ }
 {
     if s.len() < 3 {
         return Counted::Refused(Refusal::Length);
@@ -63,18 +44,9 @@ fn rows_in(s: &[u8], extra: usize, most: usize) -> Counted
     if s[0] != 1 {
         return Counted::Refused(Refusal::Version);
     }
-    let field = half_at(s, 1) as usize;
+    let field = bytes::get_half(s, 1) as usize;
     let n = field / 4;
-    if n == 0 {
-        return Counted::Refused(Refusal::Length);
-    }
-    if most < n {
-        return Counted::Refused(Refusal::Length);
-    }
-    if field % 4 != extra {
-        return Counted::Refused(Refusal::Length);
-    }
-    if s.len() != field + 3 {
+    if n == 0 || most < n || field % 4 != extra || s.len() != field + 3 {
         return Counted::Refused(Refusal::Length);
     }
     Counted::Count(n)
@@ -83,7 +55,7 @@ fn rows_in(s: &[u8], extra: usize, most: usize) -> Counted
 // The pattern that a packet of n steps holds: zeros past its steps.
 fn pattern_in(s: &[u8], n: usize) -> Pattern
     requires { ⌜ (n ≤ 64) × (length (now s) ≡ 4 * n + 4) × (n ≡ half (now s) 1 / 4) ⌝ }
-    ensures { λ r. ⌜ r ≡ patternOf (packetShape (now (s .entry))) ⌝ }
+    ensures { λ r. ⌜ r ≡ packetPattern (now (s .entry)) ⌝ }
 {
     let mut p = Pattern {
         parent: [0u8; 64],
@@ -96,8 +68,7 @@ fn pattern_in(s: &[u8], n: usize) -> Pattern
     while k < n {
         p.parent[k] = s[4 + 4 * k];
         p.axis[k] = s[5 + 4 * k];
-        let label = half_at(s, 6 + 4 * k);
-        p.label[k] = label;
+        p.label[k] = bytes::get_half(s, 6 + 4 * k);
         k += 1;
     }
     p
@@ -130,43 +101,60 @@ pub fn read_pattern(s: &[u8]) -> PatternRead
     }
 }
 
-// Puts four bytes at `at`.
-fn put_four(out: &mut [u8], at: usize, a: u8, b: u8, c: u8, d: u8)
-    requires { ⌜ at + 4 ≤ length (now out) ⌝ }
-    ensures { λ _. ⌜ now (out .exit) ≡ take at (now (out .entry)) ++ (a ∷ b ∷ c ∷ d ∷ []) ++ drop (at + 4) (now (out .entry)) ⌝ }
+// The patterns of two packets, the first packet told before the second. For the crates above: where a packet is refused the patterns are not for use.
+pub fn read_two(a: &[u8], b: &[u8]) -> TwoRead
+    ensures { λ r. ⌜ ReadsTwo (now (a .entry)) (now (b .entry)) r ⌝ }
 {
-    out[at] = a;
-    out[at + 1] = b;
-    out[at + 2] = c;
-    out[at + 3] = d;
+    let x = read_pattern(a);
+    let y = read_pattern(b);
+    let first = x.answer;
+    let second = y.answer;
+    let p = x.pattern;
+    let q = y.pattern;
+    match first {
+        Checked::Right => TwoRead {
+            answer: second,
+            first: p,
+            second: q,
+        },
+        Checked::Refused(r) => TwoRead {
+            answer: Checked::Refused(r),
+            first: p,
+            second: q,
+        },
+    }
+}
+
+// Puts the version and the length field at the front of `out`.
+fn put_head(out: &mut [u8], field: u16)
+    requires { ⌜ 3 ≤ length (now out) ⌝ }
+    ensures { λ _. ⌜ now (out .exit) ≡ (1 ∷ high field ∷ low field ∷ []) ++ drop 3 (now (out .entry)) ⌝ }
+{
+    out[0] = 1;
+    bytes::put_half(out, 1, field);
+}
+
+// Puts the four bytes of a step at `at`.
+fn put_step(out: &mut [u8], at: usize, parent: u8, axis: u8, label: u16)
+    requires { ⌜ at + 4 ≤ length (now out) ⌝ }
+    ensures { λ _. ⌜ now (out .exit) ≡ take at (now (out .entry)) ++ (parent ∷ axis ∷ high label ∷ low label ∷ []) ++ drop (at + 4) (now (out .entry)) ⌝ }
+{
+    out[at] = parent;
+    out[at + 1] = axis;
+    bytes::put_half(out, at + 2, label);
 }
 
 // The packet of a pattern, at the front of `out`.
 fn put_pattern(p: Pattern, out: &mut [u8])
-    requires { ⌜ (p .count ≤ 64) × (patternLength (p .count) + 3 ≤ length (now out)) ⌝ }
-    ensures { λ _. ⌜ now (out .exit) ≡ patternPacket (shapeOf p) ++ drop (patternLength (p .count) + 3) (now (out .entry)) ⌝ }
+    requires { ⌜ (p .count ≤ 64) × (lengthOf p ≤ length (now out)) ⌝ }
+    ensures { λ _. ⌜ now (out .exit) ≡ patternPacket (shapeOf p) ++ drop (lengthOf p) (now (out .entry)) ⌝ }
 {
     let n = p.count;
-    let field = 1 + 4 * n;
-    put_four(
-        out,
-        0,
-        1,
-        (field / 256) as u8,
-        (field % 256) as u8,
-        p.output.0,
-    );
+    put_head(out, (1 + 4 * n) as u16);
+    out[3] = p.output.0;
     let mut k = 0;
     while k < n {
-        let label = p.label[k];
-        put_four(
-            out,
-            4 + 4 * k,
-            p.parent[k],
-            p.axis[k],
-            (label / 256) as u8,
-            (label % 256) as u8,
-        );
+        put_step(out, 4 + 4 * k, p.parent[k], p.axis[k], p.label[k]);
         k += 1;
     }
 }
@@ -185,18 +173,6 @@ pub fn write_pattern(p: Pattern, out: &mut [u8]) -> Counted
     }
     put_pattern(p, out);
     Counted::Count(size)
-}
-
-// Every second 16-bit number from byte o on, n of them, at the front of `dst`.
-fn decode(s: &[u8], o: usize, n: usize, dst: &mut [u16])
-    requires { ⌜ (n ≤ length (now dst)) × (n ≤ 2048) × (o ≤ 5) × (o + 4 * n ≤ length (now s) + 2) ⌝ }
-    ensures { λ _. ⌜ now (dst .exit) ≡ column (λ i. half (now (s .entry)) (o + 4 * i)) n ++ drop n (now (dst .entry)) ⌝ }
-{
-    let mut k = 0;
-    while k < n {
-        dst[k] = half_at(s, o + 4 * k);
-        k += 1;
-    }
 }
 
 // The first n numbers of one list, at the front of another.
@@ -220,14 +196,11 @@ pub fn read_nodes(s: &[u8], parents: &mut [u16], labels: &mut [u16]) -> Counted
         Counted::Count(n) => n,
         Counted::Refused(r) => return Counted::Refused(r),
     };
-    if parents.len() < n {
+    if parents.len() < n || labels.len() < n {
         return Counted::Refused(Refusal::Room);
     }
-    if labels.len() < n {
-        return Counted::Refused(Refusal::Room);
-    }
-    decode(s, 3, n, parents);
-    decode(s, 5, n, labels);
+    bytes::get_halves(s, 3, 4, n, parents);
+    bytes::get_halves(s, 5, 4, n, labels);
     Counted::Count(n)
 }
 
@@ -246,13 +219,51 @@ pub fn read_document(s: &[u8], parents: &mut [u16], labels: &mut [u16]) -> Count
     if let Checked::Refused(r) = tables::check_document(&own_parents[..n], &own_labels[..n]) {
         return Counted::Refused(r);
     }
-    if parents.len() < n {
-        return Counted::Refused(Refusal::Room);
-    }
-    if labels.len() < n {
+    if parents.len() < n || labels.len() < n {
         return Counted::Refused(Refusal::Room);
     }
     copy(&own_parents, n, parents);
     copy(&own_labels, n, labels);
     Counted::Count(n)
+}
+
+// Puts the four bytes of a node at `at`.
+fn put_node(out: &mut [u8], at: usize, parent: u16, label: u16)
+    requires { ⌜ at + 4 ≤ length (now out) ⌝ }
+    ensures { λ _. ⌜ now (out .exit) ≡
+        take at (now (out .entry)) ++ (high parent ∷ low parent ∷ high label ∷ low label ∷ []) ++ drop (at + 4) (now (out .entry)) ⌝ }
+{
+    bytes::put_half(out, at, parent);
+    bytes::put_half(out, at + 2, label);
+}
+
+// The packet of a document, at the front of `out`. For the crates above: asks for what they have checked.
+pub fn put_document(parents: &[u16], labels: &[u16], out: &mut [u8])
+    requires { ⌜ (length (now parents) ≤ 2048) × (length (now labels) ≡ length (now parents)) × (4 * length (now parents) + 3 ≤ length (now out)) ⌝ }
+    ensures { λ _. ⌜ now (out .exit) ≡ documentPacket (documentOf (now (parents .entry)) (now (labels .entry)))
+        ++ drop (sizeOf (documentOf (now (parents .entry)) (now (labels .entry)))) (now (out .entry)) ⌝ }
+{
+    let n = parents.len();
+    put_head(out, (4 * n) as u16);
+    let mut i = 0;
+    while i < n {
+        put_node(out, 3 + 4 * i, parents[i], labels[i]);
+        i += 1;
+    }
+}
+
+// Writes the packet of a document to the front of `out` and answers how many bytes it has; bytes past them stay as they were.
+// Refused by BadDocument, then Room, with `out` as it was.
+pub fn write_document(parents: &[u16], labels: &[u16], out: &mut [u8]) -> Counted
+    ensures { λ r. ⌜ WritesDocument (documentOf (now (parents .entry)) (now (labels .entry))) (now (out .entry)) r (now (out .exit)) ⌝ }
+{
+    if let Checked::Refused(r) = tables::check_document(parents, labels) {
+        return Counted::Refused(r);
+    }
+    let size = 4 * parents.len() + 3;
+    if out.len() < size {
+        return Counted::Refused(Refusal::Room);
+    }
+    put_document(parents, labels, out);
+    Counted::Count(size)
 }

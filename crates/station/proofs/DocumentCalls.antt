@@ -1,37 +1,40 @@
 -- The calls on packets of documents, from the contracts of the calls that they make. Assumes nothing.
-use Prim.Native.Nat.{ℕ, _*_, _/_, _%_, _≤_}
-use mathlib.Core.Path.{_≡_, refl, ap, _∙_, subst}
-use mathlib.Core.Logic.{inl, ⊎-elim}
+use Prim.Native.Nat.{ℕ, _*_, _/_, _%_, _≤_, _<_}
+use mathlib.Core.Path.{_≡_, ap, _∙_, subst}
+use mathlib.Core.Logic.{⊎-elim}
 use mathlib.Core.List.{List, [], _∷_, _++_}
 use native.Mathlib.Omega.{arith}
 use lib.ListN.{length, getD, take, drop, replicate, length-replicate, List·getD-append}
 use Rattle.tables.specs.Document.{documentOf}
 use Rattle.tables.specs.Column.{blocks}
 use Rattle.tables.specs.Pattern.{shapeOf}
+use Rattle.tables.specs.Refusal.{Check, Passes}
 use Rattle.tables.specs.declared.Refusal.{Refusal}
-use Rattle.tables.specs.declared.Refusal.the-variants.{Room}
 use Rattle.tables.specs.declared.Pattern.{Pattern}
 use Rattle.tables.specs.declared.Counted.{Counted}
 use Rattle.tables.specs.declared.Counted.the-variants as counted
 use Rattle.tables.proofs.Columns.{blocks-ext}
-use Rattle.packets.specs.PatternPacket.{patternChecks}
+use Rattle.tables.proofs.Outcomes.{refuses-front, passes-front, passes-rest}
+use Rattle.packets.specs.Bytes.{halfBytes}
+use Rattle.packets.specs.PatternPacket.{packetPattern, patternChecks}
 use Rattle.packets.specs.DocumentPacket.{packetDocument, documentRules}
+use Rattle.packets.proofs.Views.{read-of, read-document-of}
 use Rattle.placing.specs.Answer.{Begins}
 use Rattle.answers.specs.Answers.{Found, HasRoom, FindsAnswers}
 use Rattle.station.specs.Code.{Small}
-use Rattle.station.specs.Patterns.{packetPattern}
-use Rattle.station.specs.Documents.{halfBytes, Asked, ReadsAsked, Answered, roomCheck, AnswersPackets}
-use Rattle.station.proofs.Checking.{refuses-front, refuses-rest, passes-both}
-use Rattle.station.proofs.PatternCalls.{packet-valid}
+use Rattle.station.specs.Documents.{AnswersPut, nodesRoom, AnswersPackets}
+use Rattle.station.specs.inner.Reading.{BothRead, ReadsBoth}
+use Rattle.station.specs.inner.Putting.{Puts}
 use Rattle.station.proofs.ListCalls.{answers-few}
-use Rattle.station.proofs.AskedCalls.{asked-document, asked-nodes, asked-few, pattern-valid, asked-passes, asked-bad}
+use Rattle.station.proofs.Putting.{puts-rest}
+use Rattle.station.proofs.ReadingCalls.{both-document, both-nodes, both-few, pattern-valid, both-passes, both-bad}
 
 -- what is known where both packets were read
-module _ {ds ps parents₀ labels₀ parents labels : List ℕ} {n : ℕ} {p : Pattern} (t : Asked ds ps parents₀ labels₀ n p parents labels) where
+module _ {ds ps parents₀ labels₀ parents labels : List ℕ} {n : ℕ} {p : Pattern} (t : BothRead ds ps parents₀ labels₀ n p parents labels) where
   -- the answers as bytes
   pub answered : (First : ℕ → Type 0) (list₀ work₀ list work room₀ room : List ℕ) (c : ℕ)
       → Found (shapeOf (packetPattern ps)) (packetDocument ds) First list₀ work₀ c list work → room ≡ blocks (halfBytes list) c ++ drop (2 * c) room₀
-      → Answered First (shapeOf (packetPattern ps)) (packetDocument ds) room₀ c room
+      → AnswersPut First (shapeOf (packetPattern ps)) (packetDocument ds) room₀ c room
   unfolding halfBytes
   answered First list₀ work₀ list work room₀ room c f e =
       let same : blocks (halfBytes list) c ≡ blocks (halfBytes (f .answers)) c = blocks-ext (halfBytes list) (halfBytes (f .answers)) c
@@ -49,7 +52,7 @@ module _ {ds ps parents₀ labels₀ parents labels : List ℕ} {n : ℕ} {p : P
   found-small First list₀ work₀ list work c f =
       omega (
         arith,
-        asked-nodes t,
+        both-nodes t,
         f .count,
         answers-few First (shapeOf (packetPattern ps)) (packetDocument ds) (f .answers) (pattern-valid t .output)
             (f .lists),
@@ -64,15 +67,15 @@ module _ {ds ps parents₀ labels₀ parents labels : List ℕ} {n : ℕ} {p : P
 
     has-room : HasRoom (packetDocument ds) (length list₀) (length work₀)
     has-room = (
-      omega (arith, asked-few t, asked-nodes t, length-replicate {A = ℕ} 2048 0),
+      omega (arith, both-few t, both-nodes t, length-replicate {A = ℕ} 2048 0),
       omega
-          (arith, asked-few t, asked-nodes t, length-replicate {A = ℕ} 4096 0),
+          (arith, both-few t, both-nodes t, length-replicate {A = ℕ} 4096 0),
     )
 
     -- the call in terms of the packets
     here : (a : Counted) → FindsAnswers p (documentOf (take n parents) (take n labels)) list₀ work₀ a list work
         → FindsAnswers (packetPattern ps) (packetDocument ds) list₀ work₀ a list work
-    here a h = subst (λ d. FindsAnswers (packetPattern ps) d list₀ work₀ a list work) (asked-document t)
+    here a h = subst (λ d. FindsAnswers (packetPattern ps) d list₀ work₀ a list work) (both-document t)
         (subst (λ q. FindsAnswers q (documentOf (take n parents) (take n labels)) list₀ work₀ a list work) (t .pattern-read) h)
 
     module _ (a : Counted) (h : FindsAnswers p (documentOf (take n parents) (take n labels)) list₀ work₀ a list work) where
@@ -83,7 +86,7 @@ module _ {ds ps parents₀ labels₀ parents labels : List ℕ} {n : ℕ} {p : P
           record {
             says = (
               ⊎-elim (λ w. absurd (w .0 (pattern-valid t)))
-                  (λ w. ⊎-elim (λ w. asked-bad t (patternChecks ps ++ roomCheck ds (length room₀)) r (w .0) (w .1))
+                  (λ w. ⊎-elim (λ w. both-bad t (patternChecks ps ++ nodesRoom ds (length room₀)) r (w .0) (w .1))
                   (λ w. absurd (⊎-elim (λ w. w .0 has-room) (λ w. w .1) (w .1))) (w .1))
                   (x .0),
               k,
@@ -97,45 +100,34 @@ module _ {ds ps parents₀ labels₀ parents labels : List ℕ} {n : ℕ} {p : P
         pub answers-count : c ≤ n
         answers-count = found-small (Begins (shapeOf (packetPattern ps))) list₀ work₀ list work c (there .1)
 
-        pub answers-room : (room₀ room : List ℕ) → (2 * n ≤ length room₀ → ⊥) → room ≡ room₀ → AnswersPackets ds ps room₀ (counted.Refused Room) room
-        answers-room room₀ room m k =
+        pub answers-put : {room₀ room : List ℕ} (b : Counted) → Puts (2 * n) (blocks (halfBytes list) c) (2 * c) c room₀ b room → AnswersPackets ds ps room₀ b
+            room
+        answers-put {room₀} {room} b z =
+            let X : ℕ → Type 0 = λ c. AnswersPut (Begins (shapeOf (packetPattern ps))) (shapeOf (packetPattern ps)) (packetDocument ds) room₀ c room in
             record {
-              says = (
-                refuses-rest (documentRules ds ++ patternChecks ps) (roomCheck ds (length room₀)) Room (asked-passes t (there .0 .1 .0))
-                    (inl (λ z. m (omega (arith, t .count)), refl)),
-                k,
-              );
-            }
-
-        pub answers-packed : (room₀ room : List ℕ) → 2 * n ≤ length room₀ → room ≡ blocks (halfBytes list) c ++ drop (2 * c) room₀
-            → AnswersPackets ds ps room₀ (counted.Count c) room
-        answers-packed room₀ room m k =
-            record {
-              says = (
-                passes-both (documentRules ds ++ patternChecks ps) (roomCheck ds (length room₀)) (asked-passes t (there .0 .1 .0))
-                    (omega (arith, t .count), tt),
-                answered (Begins (shapeOf (packetPattern ps))) list₀ work₀ list work room₀ room c (there .1) k,
-              );
+              says = puts-rest (documentRules ds ++ patternChecks ps) b X (both-passes t (there .0 .1 .0))
+                  (answered (Begins (shapeOf (packetPattern ps))) list₀ work₀ list work room₀ room c (there .1))
+                  (subst (λ m. Puts (2 * m) (blocks (halfBytes list) c) (2 * c) c room₀ b room) (t .count) z);
             }
 
 -- a packet that is refused
-pub answers-unread : {ds ps parents₀ labels₀ parents labels : List ℕ} {a : Counted} {p : Pattern} → ReadsAsked ds ps parents₀ labels₀ a p parents labels
+pub answers-unread : {ds ps parents₀ labels₀ parents labels : List ℕ} {a : Counted} {p : Pattern} → ReadsBoth ds ps parents₀ labels₀ a p parents labels
     → (room₀ room : List ℕ) (r : Refusal) → a ≡ counted.Refused r → room ≡ room₀ → AnswersPackets ds ps room₀ (counted.Refused r) room
 answers-unread {ds = ds} {ps = ps} t room₀ room r e k =
-    record { says = (refuses-front (documentRules ds ++ patternChecks ps) (roomCheck ds (length room₀)) r (t .refused r e), k) }
+    record { says = (refuses-front (documentRules ds ++ patternChecks ps) (nodesRoom ds (length room₀)) r (t .refused r e), k) }
+
+-- a document has at most 2,048 nodes, so the counts are small
+pub put-small : (First : ℕ → Type 0) (ds ps : List ℕ) (rest : List Check) → Passes ((documentRules ds ++ patternChecks ps) ++ rest) → (room₀ room : List ℕ)
+    (c : ℕ)
+    → AnswersPut First (shapeOf (packetPattern ps)) (packetDocument ds) room₀ c room → c < 65536
+put-small First ds ps rest p room₀ room c f =
+    let b = passes-front (documentRules ds ++ patternChecks ps) rest p in
+    let d = read-document-of ds (passes-front (documentRules ds) (patternChecks ps) b) in
+    let v = read-of ps (passes-rest (documentRules ds) (patternChecks ps) b) .right in
+    omega (arith, d .right .few, f .count, answers-few First (shapeOf (packetPattern ps)) (packetDocument ds) (f .answers) (v .output) (f .lists))
 
 pub answers-small : (ds ps room₀ room : List ℕ) (a : Counted) → AnswersPackets ds ps room₀ a room → Small a
 answers-small ds ps room₀ room (counted.Count c) h =
-    let v = packet-valid ps (
-      h .says .0 .1 .1 .1 .1 .0,
-      (h .says .0 .1 .1 .1 .1 .1 .0, (h .says .0 .1 .1 .1 .1 .1 .1 .0, (h .says .0 .1 .1 .1 .1 .1 .1 .1 .0, tt))),
-    ) in
-    let f = h .says .1 in
-    omega (
-      arith,
-      h .says .0 .1 .1 .1 .0 .few,
-      f .count,
-      answers-few (Begins (shapeOf (packetPattern ps))) (shapeOf (packetPattern ps)) (packetDocument ds)
-          (f .answers) (v .output) (f .lists),
-    )
+    let A = shapeOf (packetPattern ps) in
+    put-small (Begins A) ds ps (nodesRoom ds (length room₀)) (h .says .0) room₀ room c (h .says .1)
 answers-small ds ps room₀ room (counted.Refused r) h = tt

@@ -1,26 +1,24 @@
 -- The calls on lists, from the contracts of the calls that they make; and that their counts are small. Assumes nothing.
-use Prim.Native.Nat.{ℕ, zero, suc, _*_, _≤_, _<_}
-use mathlib.Core.Path.{_≡_, refl, sym, ap, _∙_, subst}
-use mathlib.Core.Logic.{_⊎_, ⊎-elim}
-use mathlib.Core.List.{List, _++_}
+use Prim.Native.Nat.{ℕ, zero, suc, _≤_, _<_}
+use mathlib.Core.Path.{_≡_, refl, subst}
+use mathlib.Core.List.{List}
 use native.Mathlib.Omega.{arith}
-use native.Mathlib.Nat.{eq-zero-or-pos}
 use lib.ListN.{length, getD}
 use Rattle.tables.specs.Document.{Document, nodeCount}
-use Rattle.tables.specs.Pattern.{Shape, shapeOf, zeroPattern}
-use Rattle.tables.specs.Refusal.{Refuses, Decided}
+use Rattle.tables.specs.Pattern.{Shape, shapeOf}
 use Rattle.tables.specs.declared.Refusal.{Refusal}
-use Rattle.tables.specs.declared.Pattern.{Pattern}
 use Rattle.tables.specs.declared.Checked.the-variants as checked
 use Rattle.tables.specs.declared.Counted.{Counted}
 use Rattle.tables.specs.declared.Counted.the-variants as counted
-use Rattle.packets.specs.PatternPacket.{patternChecks}
+use Rattle.tables.proofs.Outcomes.{refuses-front, passes-front, passes-rest, counted-rest}
+use Rattle.packets.specs.PatternPacket.{packetPattern, patternChecks, ReadsPattern}
+use Rattle.packets.specs.DocumentPacket.{documentRules, listsCheck}
+use Rattle.packets.specs.declared.PatternRead.{PatternRead}
+use Rattle.packets.proofs.Views.{read-document-of, nodes-few, pattern-told}
 use Rattle.placing.specs.Answer.{Begins, Started, In, Ascending, Lists}
 use Rattle.answers.specs.Answers.{Found, answerChecks, startedChecks, FindsAnswers, FindsStarted}
 use Rattle.station.specs.Code.{Small}
-use Rattle.station.specs.Patterns.{packetPattern}
 use Rattle.station.specs.Lists.{ReadsInto, ListAnswers, ListStarted}
-use Rattle.station.proofs.Checking.{refuses-front, counted-rest}
 
 -- an entry of a strictly ascending list is no smaller than its place
 ascending-least : (xs : List ℕ) → Ascending xs → (k : ℕ) → k < length xs → k ≤ getD xs k 0
@@ -46,54 +44,69 @@ found-few : (First : ℕ → Type 0) (A : Shape) (d : Document) (list₀ work₀
     c list work → c ≤ nodeCount d
 found-few First A d list₀ work₀ list work c o f = omega (arith, f .count, answers-few First A d (f .answers) o (f .lists))
 
-module _ (d : Document) (ps list₀ work₀ list work : List ℕ) where
-  pub list-unread : (r : Refusal) → Refuses (patternChecks ps) r → list ≡ list₀ → work ≡ work₀ → ListAnswers d ps list₀ work₀ (counted.Refused r) list work
-  list-unread r h e f = record { says = (refuses-front (patternChecks ps) (answerChecks (packetPattern ps) d (length list₀) (length work₀)) r h, (e, f)) }
+-- a packet that was read, for a document that stands in two lists
+module _ (d : Document) (ps list₀ work₀ list work : List ℕ) (x : PatternRead) (h : ReadsPattern ps x) where
+  abbrev A : Shape
+  A = shapeOf (packetPattern ps)
 
-  pub list-read : (p : Pattern) (a : Counted) → Decided (patternChecks ps) checked.Right (p ≡ packetPattern ps) (p ≡ zeroPattern) → FindsAnswers p d list₀
-      work₀ a list work → ListAnswers d ps list₀ work₀ a list work
-  list-read p a h f =
+  pub list-unread : (r : Refusal) → x .answer ≡ checked.Refused r → list ≡ list₀ → work ≡ work₀ → ListAnswers d ps list₀ work₀ (counted.Refused r) list work
+  list-unread r e f g = record {
+    says = (
+      refuses-front (patternChecks ps) (answerChecks (packetPattern ps) d (length list₀) (length work₀)) r (pattern-told ps x (checked.Refused r) h e .0),
+      (f, g),
+    );
+  }
+
+  pub list-read : (a : Counted) → x .answer ≡ checked.Right → FindsAnswers (x .pattern) d list₀ work₀ a list work → ListAnswers d ps list₀ work₀ a list work
+  list-read a e f =
+      let t = pattern-told ps x checked.Right h e in
       record {
         says =
             counted-rest (patternChecks ps) (answerChecks (packetPattern ps) d (length list₀) (length work₀)) a
-            (λ c. Found (shapeOf (packetPattern ps)) d (Begins (shapeOf (packetPattern ps))) list₀ work₀ c list work) ((list ≡ list₀) × (work ≡ work₀)) (h .0)
-            (subst (λ q. FindsAnswers q d list₀ work₀ a list work) (h .1) f);
+            (λ c. Found A d (Begins A) list₀ work₀ c list work) ((list ≡ list₀) × (work ≡ work₀)) (t .0)
+            (subst (λ q. FindsAnswers q d list₀ work₀ a list work) (t .1) f);
       }
 
-  pub list-small : (a : Counted) → ListAnswers d ps list₀ work₀ a list work → Small a
-  list-small (counted.Count c) h =
-      let v = h .says .0 .1 .1 .1 .1 in
-      let A = shapeOf (packetPattern ps) in
-      omega (arith, v .1 .0 .few, found-few (Begins A) A d list₀ work₀ list work c (v .0 .output) (h .says .1))
-  list-small (counted.Refused r) h = tt
-
   module _ (starts : List ℕ) where
-    pub started-unread : (r : Refusal) → Refuses (patternChecks ps) r → list ≡ list₀ → work ≡ work₀ → ListStarted d ps starts list₀ work₀ (counted.Refused r)
-        list work
-    started-unread r h e f = record {
-      says = (refuses-front (patternChecks ps) (startedChecks (packetPattern ps) d starts (length list₀) (length work₀)) r h, (e, f));
+    pub started-unread : (r : Refusal) → x .answer ≡ checked.Refused r → list ≡ list₀ → work ≡ work₀
+        → ListStarted d ps starts list₀ work₀ (counted.Refused r) list work
+    started-unread r e f g = record {
+      says = (
+        refuses-front (patternChecks ps) (startedChecks (packetPattern ps) d starts (length list₀) (length work₀)) r
+            (pattern-told ps x (checked.Refused r) h e .0),
+        (f, g),
+      );
     }
 
-    pub started-read : (p : Pattern) (a : Counted) → Decided (patternChecks ps) checked.Right (p ≡ packetPattern ps) (p ≡ zeroPattern) → FindsStarted p d
-        starts list₀ work₀ a list work
+    pub started-read : (a : Counted) → x .answer ≡ checked.Right → FindsStarted (x .pattern) d starts list₀ work₀ a list work
         → ListStarted d ps starts list₀ work₀ a list work
-    started-read p a h f =
+    started-read a e f =
+        let t = pattern-told ps x checked.Right h e in
         record {
           says =
               counted-rest (patternChecks ps) (startedChecks (packetPattern ps) d starts (length list₀) (length work₀)) a
-              (λ c. Found (shapeOf (packetPattern ps)) d (In starts) list₀ work₀ c list work) ((list ≡ list₀) × (work ≡ work₀)) (h .0)
-              (subst (λ q. FindsStarted q d starts list₀ work₀ a list work) (h .1) f);
+              (λ c. Found A d (In starts) list₀ work₀ c list work) ((list ≡ list₀) × (work ≡ work₀)) (t .0)
+              (subst (λ q. FindsStarted q d starts list₀ work₀ a list work) (t .1) f);
         }
 
-    pub started-small : (a : Counted) → ListStarted d ps starts list₀ work₀ a list work → Small a
-    started-small (counted.Count c) h =
-        let v = h .says .0 .1 .1 .1 .1 in
-        let A = shapeOf (packetPattern ps) in
-        omega (arith, v .1 .0 .few, found-few (In starts) A d list₀ work₀ list work c (v .0 .output) (h .says .1))
-    started-small (counted.Refused r) h = tt
+-- there are no more answers than nodes
+pub list-small : (d : Document) (ps list₀ work₀ list work : List ℕ) (a : Counted) → ListAnswers d ps list₀ work₀ a list work → Small a
+list-small d ps list₀ work₀ list work (counted.Count c) h =
+    let v = passes-rest (patternChecks ps) (answerChecks (packetPattern ps) d (length list₀) (length work₀)) (h .says .0) in
+    let A = shapeOf (packetPattern ps) in
+    omega (arith, v .1 .0 .few, found-few (Begins A) A d list₀ work₀ list work c (v .0 .output) (h .says .1))
+list-small d ps list₀ work₀ list work (counted.Refused r) h = tt
+
+pub started-small : (d : Document) (ps starts list₀ work₀ list work : List ℕ) (a : Counted) → ListStarted d ps starts list₀ work₀ a list work → Small a
+started-small d ps starts list₀ work₀ list work (counted.Count c) h =
+    let v = passes-rest (patternChecks ps) (startedChecks (packetPattern ps) d starts (length list₀) (length work₀)) (h .says .0) in
+    let A = shapeOf (packetPattern ps) in
+    omega (arith, v .1 .0 .few, found-few (In starts) A d list₀ work₀ list work c (v .0 .output) (h .says .1))
+started-small d ps starts list₀ work₀ list work (counted.Refused r) h = tt
 
 -- a document has at most 2,048 nodes
 pub reads-small : (bs parents₀ labels₀ parents labels : List ℕ) (a : Counted) → ReadsInto bs parents₀ labels₀ a parents labels → Small a
 reads-small bs parents₀ labels₀ parents labels (counted.Count c) h =
-    let s = h .says .0 .1 .1 .0 .1 in omega (arith, h .says .1 .0, s .few, s .field)
+    let p = passes-front (documentRules bs) (listsCheck bs (length parents₀) (length labels₀)) (h .says .0) in
+    omega (arith, h .says .1 .0, nodes-few (read-document-of bs p .head))
 reads-small bs parents₀ labels₀ parents labels (counted.Refused r) h = tt

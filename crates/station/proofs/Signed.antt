@@ -1,8 +1,8 @@
 -- A small count, and minus a small number, as an i64. Assumes nothing.
 use Prim.Native.Nat.{ℕ, zero, suc, _<_, _^_}
-use mathlib.Core.Path.{_≡_, refl, _∙_, subst, sym, ap}
+use mathlib.Core.Path.{_≡_, _∙_, subst, sym, ap}
 use native.Mathlib.Omega.{arith}
-use lib.IntN.{ℤ, pos, negsuc, negℤ, _-ℤ_, +ℤ-idl}
+use lib.IntN.{ℤ, pos, negℤ, _-ℤ_, +ℤ-idl}
 use lib.Dec.{lit<}
 use mir.Syntax.{w64}
 use mir.Val.{SFits, toZ, ofZ, hbits}

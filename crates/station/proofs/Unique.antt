@@ -1,10 +1,10 @@
 -- No second number and no second content of the room or of a list fits an entry. Assumes nothing.
-use Prim.Native.Nat.{ℕ, zero, suc, _+_, _*_, _≤_}
+use Prim.Native.Nat.{ℕ, zero, suc, _+_, _*_}
 use mathlib.Core.Path.{_≡_, refl, sym, ap, ap₂, _∙_}
 use mathlib.Core.List.{List, [], _∷_, _++_}
 use lib.IntN.{ℤ}
 use lib.ListN.{length, drop}
-use Rattle.tables.specs.Column.{padded}
+use Rattle.tables.specs.Checks.{roomFor}
 use Rattle.tables.specs.Document.{Document}
 use Rattle.tables.specs.Pattern.{Shape, shapeOf}
 use Rattle.tables.specs.Refusal.{Check, CountedBy}
@@ -13,8 +13,8 @@ use Rattle.tables.specs.declared.Counted.{Counted}
 use Rattle.tables.proofs.Columns.{padded-ext}
 use Rattle.tables.proofs.Outcomes.{counted-both}
 use Rattle.tables.proofs.Refusals.{counted-unique}
-use Rattle.packets.specs.Bytes.{high, low}
-use Rattle.packets.specs.PatternPacket.{patternPacket, patternChecks}
+use Rattle.packets.specs.Bytes.{high, low, packed, unpacked}
+use Rattle.packets.specs.PatternPacket.{patternPacket, packetPattern, patternChecks, lengthOf, PacketPut}
 use Rattle.packets.specs.DocumentPacket.{packetDocument, documentPacket}
 use Rattle.packets.proofs.DocumentTrip.{reads-document-unique}
 use Rattle.placing.specs.Answer.{Begins, Started, In}
@@ -28,9 +28,9 @@ use Rattle.joining.specs.Join.{joinOf}
 use Rattle.rewriting.proofs.Rewritten.{candidate-unique}
 use Rattle.station.specs.Code.{codeOf, Coded}
 use Rattle.station.specs.Contained.{Shown, containsChecks, ContainsPackets}
-use Rattle.station.specs.Documents.{packed, unpacked, Answered, packetChecks, AnswersPackets, startChecks, StartsPackets}
+use Rattle.station.specs.Documents.{AnswersPut, packetChecks, AnswersPackets, startChecks, StartsPackets}
 use Rattle.station.specs.Lists.{ReadsInto, ListAnswers, ListStarted}
-use Rattle.station.specs.Patterns.{packetPattern, lengthOf, Put, joinsChecks, JoinsPackets, rewritesChecks, Rewritten, RewritesPackets, CopiesPacket}
+use Rattle.station.specs.Patterns.{joinsChecks, JoinsPackets, rewritesChecks, Rewritten, RewritesPackets, CopiesPacket}
 
 -- one answer, one number
 pub coded-unique : (P Q : Counted → Type 0) (r q : ℤ) → ((a b : Counted) → P a → Q b → a ≡ b) → Coded P r → Coded Q q → r ≡ q
@@ -43,7 +43,7 @@ one-room cs r q room₀ room room′ X X′ u h k =
     (counted-unique cs r q X _ X′ _ (λ c e x y. u c e x y .0) h k, counted-both cs r q (λ c e x y. u c e x y .1) (λ x y. x ∙ sym y) h k)
 
 -- one pattern is put in one way
-put-unique : (p q : Pattern) (room₀ room room′ : List ℕ) (c e : ℕ) → p ≡ q → Put p room₀ c room → Put q room₀ e room′ → (c ≡ e) × (room ≡ room′)
+put-unique : (p q : Pattern) (room₀ room room′ : List ℕ) (c e : ℕ) → p ≡ q → PacketPut p room₀ c room → PacketPut q room₀ e room′ → (c ≡ e) × (room ≡ room′)
 put-unique p q room₀ room room′ c e s x y =
     let n : c ≡ e = x .0 ∙ ap lengthOf s ∙ sym (y .0) in
     (n, x .1 ∙ ap₂ (λ (p : Pattern) (m : ℕ). patternPacket (shapeOf p) ++ drop m room₀) s n ∙ sym (y .1))
@@ -52,7 +52,7 @@ pub joins-packets-unique : (us es room₀ : List ℕ) (r q : Counted) (room room
     (r ≡ q) × (room ≡ room′)
 joins-packets-unique us es room₀ r q room room′ h k =
     let J = joinOf (packetPattern us) (packetPattern es) in
-    one-room (joinsChecks us es (length room₀)) r q room₀ room room′ (λ c. Put J room₀ c room) (λ c. Put J room₀ c room′)
+    one-room (joinsChecks us es (length room₀)) r q room₀ room room′ (λ c. PacketPut J room₀ c room) (λ c. PacketPut J room₀ c room′)
     (λ c e x y. put-unique J J room₀ room room′ c e refl x y) (h .says) (k .says)
 
 rewritten-unique : (Q U : Pattern) (room₀ room room′ : List ℕ) (c e : ℕ) → Rewritten Q U room₀ c room → Rewritten Q U room₀ e room′ → (c ≡ e) × (room ≡ room′)
@@ -72,11 +72,12 @@ rewrites-packets-unique qs us room₀ r q room room′ h k =
 pub copies-packet-unique : (bs room₀ : List ℕ) (r q : Counted) (room room′ : List ℕ) → CopiesPacket bs room₀ r room → CopiesPacket bs room₀ q room′ → (r ≡ q)
     × (room ≡ room′)
 copies-packet-unique bs room₀ r q room room′ h k =
-    one-room (patternChecks bs ++ (record { asks = length bs ≤ length room₀; gives = 5 } ∷ [])) r q room₀ room room′
+    one-room (patternChecks bs ++ roomFor (length bs) (length room₀)) r q room₀ room room′
     (λ c. (c ≡ length bs) × (room ≡ bs ++ drop c room₀)) (λ c. (c ≡ length bs) × (room′ ≡ bs ++ drop c room₀))
     (λ c e x y. (x .0 ∙ sym (y .0), x .1 ∙ ap (λ m. bs ++ drop m room₀) (x .0 ∙ sym (y .0)) ∙ sym (y .1))) (h .says) (k .says)
 
-answered-unique : (First : ℕ → Type 0) (A : Shape) (d : Document) (room₀ room room′ : List ℕ) (c e : ℕ) → Answered First A d room₀ c room → Answered First A d
+answered-unique : (First : ℕ → Type 0) (A : Shape) (d : Document) (room₀ room room′ : List ℕ) (c e : ℕ) → AnswersPut First A d room₀ c room → AnswersPut First
+    A d
     room₀ e room′ → (c ≡ e) × (room ≡ room′)
 answered-unique First A d room₀ room room′ c e x y =
     let s = lists-unique (Started First A d) (x .answers) (y .answers) (x .lists) (y .lists) in
@@ -88,7 +89,7 @@ pub answers-packets-unique : (ds ps room₀ : List ℕ) (r q : Counted) (room ro
 answers-packets-unique ds ps room₀ r q room room′ h k =
     let A = shapeOf (packetPattern ps) in
     one-room (packetChecks ds ps (length room₀)) r q room₀ room room′
-    (λ c. Answered (Begins A) A (packetDocument ds) room₀ c room) (λ c. Answered (Begins A) A (packetDocument ds) room₀ c room′)
+    (λ c. AnswersPut (Begins A) A (packetDocument ds) room₀ c room) (λ c. AnswersPut (Begins A) A (packetDocument ds) room₀ c room′)
     (λ c e x y. answered-unique (Begins A) A (packetDocument ds) room₀ room room′ c e x y) (h .says) (k .says)
 
 pub starts-packets-unique : (ds ps ss room₀ : List ℕ) (r q : Counted) (room room′ : List ℕ) → StartsPackets ds ps ss room₀ r room → StartsPackets ds ps ss
@@ -96,7 +97,7 @@ pub starts-packets-unique : (ds ps ss room₀ : List ℕ) (r q : Counted) (room 
 starts-packets-unique ds ps ss room₀ r q room room′ h k =
     let A = shapeOf (packetPattern ps) in
     one-room (startChecks ds ps ss (length room₀)) r q room₀ room room′
-    (λ c. Answered (In (unpacked ss)) A (packetDocument ds) room₀ c room) (λ c. Answered (In (unpacked ss)) A (packetDocument ds) room₀ c room′)
+    (λ c. AnswersPut (In (unpacked ss)) A (packetDocument ds) room₀ c room) (λ c. AnswersPut (In (unpacked ss)) A (packetDocument ds) room₀ c room′)
     (λ c e x y. answered-unique (In (unpacked ss)) A (packetDocument ds) room₀ room room′ c e x y) (h .says) (k .says)
 
 shown-unique : (A B : Pattern) (room₀ room room′ : List ℕ) (c e : ℕ) → Shown A B room₀ c room → Shown A B room₀ e room′ → (c ≡ e) × (room ≡ room′)

@@ -1,5 +1,5 @@
 -- Answers as the number that C is handed (docs/RULES.md, "From C"). Assumes nothing.
-use Prim.Native.Nat.{ℕ, _<_}
+use Prim.Native.Nat.{_<_}
 use mathlib.Core.Path.{_≡_}
 use lib.IntN.{ℤ, pos, negℤ}
 use Rattle.tables.specs.Refusal.{number}

@@ -2,25 +2,25 @@
 --   ShownWithin       a contained pair: the smallest mapping
 --   ShownApart        a pair apart: the witness as a packet, and its answer node
 --   Shown             the room by the answer, 1 or 0
---   lastChecks        what the call checks past the packets
+--   freshCheck        a label for the witness
 --   containsChecks    what the call checks, in order
 --   ContainsPackets   what the call answers
 -- Assumes nothing.
-use Prim.Native.Nat.{ℕ, zero, suc, _+_, _*_, _≤_}
+use Prim.Native.Nat.{ℕ, zero, suc, _+_, _*_}
 use mathlib.Core.Path.{_≡_}
 use mathlib.Core.List.{List, [], _∷_, _++_}
 use lib.ListN.{length, drop}
 use Rattle.tables.specs.Column.{padded}
+use Rattle.tables.specs.Checks.{roomFor}
 use Rattle.tables.specs.Pattern.{shapeOf}
 use Rattle.tables.specs.Refusal.{Check, CountedBy}
 use Rattle.tables.specs.declared.Pattern.{Pattern}
 use Rattle.tables.specs.declared.Counted.{Counted}
 use Rattle.packets.specs.Bytes.{high, low}
-use Rattle.packets.specs.PatternPacket.{patternChecks}
+use Rattle.packets.specs.PatternPacket.{packetPattern, patternChecks}
 use Rattle.packets.specs.DocumentPacket.{documentPacket}
 use Rattle.containment.specs.Mapping.{LeastMap, Contained}
 use Rattle.containment.specs.Witness.{Fresh, witnessSize, witnessOf, answerNode}
-use Rattle.station.specs.Patterns.{packetPattern}
 
 -- A is contained in B: the room begins with the smallest mapping of B into A, 64 bytes, zero past B's steps
 pub record ShownWithin (A B : Pattern) (room₀ room : List ℕ) : Type 0 where
@@ -44,13 +44,13 @@ Shown A B room₀ zero room = ShownApart A B room₀ room
 Shown A B room₀ (suc zero) room = ShownWithin A B room₀ room
 Shown A B room₀ (suc (suc c)) room = ⊥
 
--- past the packets: a label for the witness, and 517 bytes of room
-abbrev pub lastChecks : Pattern → Pattern → ℕ → List Check
-lastChecks A B m = record { asks = (l : ℕ) × Fresh (shapeOf A) (shapeOf B) l; gives = 9 } ∷ record { asks = 517 ≤ m; gives = 5 } ∷ []
+-- past the packets: a label for the witness
+abbrev pub freshCheck : Pattern → Pattern → List Check
+freshCheck A B = record { asks = (l : ℕ) × Fresh (shapeOf A) (shapeOf B) l; gives = 9 } ∷ []
 
--- the packet of A, the packet of B, and those
+-- the packet of A, the packet of B, that label, and 517 bytes of room
 abbrev pub containsChecks : List ℕ → List ℕ → ℕ → List Check
-containsChecks xs ys m = (patternChecks xs ++ patternChecks ys) ++ lastChecks (packetPattern xs) (packetPattern ys) m
+containsChecks xs ys m = (patternChecks xs ++ patternChecks ys) ++ freshCheck (packetPattern xs) (packetPattern ys) ++ roomFor 517 m
 
 -- what the call answers; a refusal leaves the room as it was
 pub record ContainsPackets (xs ys room₀ : List ℕ) (r : Counted) (room : List ℕ) : Type 0 where

@@ -4,3 +4,4 @@ pub mod Patterns
 pub mod Lists
 pub mod Documents
 pub mod Contained
+pub mod inner

@@ -5,13 +5,12 @@ use mathlib.Core.List.{List, _++_}
 use lib.ListN.{length}
 use Rattle.tables.specs.Document.{Document}
 use Rattle.tables.specs.Pattern.{shapeOf}
-use Rattle.tables.specs.Refusal.{Check, CountedBy}
+use Rattle.tables.specs.Refusal.{CountedBy}
 use Rattle.tables.specs.declared.Counted.{Counted}
-use Rattle.packets.specs.PatternPacket.{patternChecks}
+use Rattle.packets.specs.PatternPacket.{packetPattern, patternChecks}
 use Rattle.packets.specs.DocumentPacket.{ReadsDocument}
 use Rattle.placing.specs.Answer.{Begins, In}
 use Rattle.answers.specs.Answers.{Found, answerChecks, startedChecks}
-use Rattle.station.specs.Patterns.{packetPattern}
 
 -- reading a document packet into two lists is the call of that name
 pub record ReadsInto (bs parents₀ labels₀ : List ℕ) (r : Counted) (parents labels : List ℕ) : Type 0 where

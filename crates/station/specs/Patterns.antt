@@ -1,9 +1,4 @@
 -- The calls on patterns, as packets in and a packet out: what they check, answer and leave in the room (docs/RULES.md, "From C").
---   packetPattern    the pattern that a packet is read as
---   lengthOf         the length of a pattern's packet
---   Put              a packet at the front of the room
---   bothOf           the first refusal of two answers
---   ReadsTwo         what reading two packets answers
 --   joinsChecks      what joining two packets checks, in order
 --   JoinsPackets     what it answers
 --   ServesBy         a compensation is the candidate, and serves
@@ -12,51 +7,28 @@
 --   RewritesPackets  what it answers
 --   CopiesPacket     what reading a packet and writing it back answers
 -- Assumes nothing.
-use Prim.Native.Nat.{ℕ, zero, suc, _+_, _≤_}
+use Prim.Native.Nat.{ℕ, zero, suc, _≤_}
 use mathlib.Core.Path.{_≡_}
 use mathlib.Core.List.{List, [], _∷_, _++_}
 use lib.ListN.{length, drop}
-use Rattle.tables.specs.Pattern.{shapeOf, patternOf}
-use Rattle.tables.specs.Refusal.{Check, Decided, CountedBy}
+use Rattle.tables.specs.Checks.{roomFor}
+use Rattle.tables.specs.Refusal.{Check, CountedBy}
 use Rattle.tables.specs.declared.Pattern.{Pattern}
 use Rattle.tables.specs.declared.Counted.{Counted}
-use Rattle.packets.specs.PatternPacket.{patternLength, patternPacket, packetShape, patternChecks}
+use Rattle.packets.specs.PatternPacket.{packetPattern, patternChecks, lengthOf, PacketPut}
 use Rattle.joining.specs.Join.{joinOf, joinChecks}
 use Rattle.rewriting.specs.Candidate.{Candidate}
 use Rattle.rewriting.specs.Rewriting.{Serves, rewritingChecks}
-use Rattle.tables.specs.declared.Checked.{Checked}
-use Rattle.tables.specs.declared.Checked.the-variants as checked
-
--- the pattern that a packet is read as
-abbrev pub packetPattern : List ℕ → Pattern
-packetPattern bs = patternOf (packetShape bs)
-
--- the length of a pattern's packet
-abbrev pub lengthOf : Pattern → ℕ
-lengthOf p = patternLength (p .count) + 3
-
--- the packet of a pattern is at the front of the room, and c is its length
-abbrev pub Put : Pattern → List ℕ → ℕ → List ℕ → Type 0
-Put p room₀ c room = (c ≡ lengthOf p) × (room ≡ patternPacket (shapeOf p) ++ drop c room₀)
-
--- the first refusal of two answers, if there is one
-abbrev pub bothOf : Checked → Checked → Checked
-bothOf checked.Right c = c
-bothOf (checked.Refused r) c = checked.Refused r
-
--- both patterns are read, where every check of the first packet and then of the second holds
-pub record ReadsTwo (bs cs : List ℕ) (r : Checked) (p q : Pattern) : Type 0 where
-  pub says : Decided (patternChecks bs ++ patternChecks cs) r ((p ≡ packetPattern bs) × (q ≡ packetPattern cs)) (Unit {0})
 
 -- joining: both packets, then what joining checks, then the room
 abbrev pub joinsChecks : List ℕ → List ℕ → ℕ → List Check
 joinsChecks us es m =
     (patternChecks us ++ patternChecks es) ++ joinChecks (packetPattern us) (packetPattern es)
-    ++ (record { asks = lengthOf (joinOf (packetPattern us) (packetPattern es)) ≤ m; gives = 5 } ∷ [])
+    ++ roomFor (lengthOf (joinOf (packetPattern us) (packetPattern es))) m
 
 -- joining puts the packet of the join at the front of the room; a refusal leaves the room as it was
 pub record JoinsPackets (us es room₀ : List ℕ) (r : Counted) (room : List ℕ) : Type 0 where
-  pub says : CountedBy (joinsChecks us es (length room₀)) r (λ c. Put (joinOf (packetPattern us) (packetPattern es)) room₀ c room) (room ≡ room₀)
+  pub says : CountedBy (joinsChecks us es (length room₀)) r (λ c. PacketPut (joinOf (packetPattern us) (packetPattern es)) room₀ c room) (room ≡ room₀)
 
 -- E is the candidate for Q by U, and it serves
 abbrev pub ServesBy : Pattern → Pattern → Pattern → Type 0
@@ -71,7 +43,7 @@ rewritesChecks qs us m =
 -- 0 says that none serves, and the room stays; any other number is the length of the packet of the one that does
 abbrev pub Rewritten : Pattern → Pattern → List ℕ → ℕ → List ℕ → Type 0
 Rewritten Q U room₀ zero room = ((E : Pattern) → ServesBy Q U E → ⊥) × (room ≡ room₀)
-Rewritten Q U room₀ (suc c) room = (E : Pattern) × ServesBy Q U E × Put E room₀ (suc c) room
+Rewritten Q U room₀ (suc c) room = (E : Pattern) × ServesBy Q U E × PacketPut E room₀ (suc c) room
 
 -- what rewriting a packet by a packet answers; a refusal leaves the room as it was
 pub record RewritesPackets (qs us room₀ : List ℕ) (r : Counted) (room : List ℕ) : Type 0 where
@@ -79,5 +51,5 @@ pub record RewritesPackets (qs us room₀ : List ℕ) (r : Counted) (room : List
 
 -- reading a packet and writing it back: the same bytes at the front of the room
 pub record CopiesPacket (bs room₀ : List ℕ) (r : Counted) (room : List ℕ) : Type 0 where
-  pub says : CountedBy (patternChecks bs ++ (record { asks = length bs ≤ length room₀; gives = 5 } ∷ [])) r
+  pub says : CountedBy (patternChecks bs ++ roomFor (length bs) (length room₀)) r
       (λ c. (c ≡ length bs) × (room ≡ bs ++ drop c room₀)) (room ≡ room₀)

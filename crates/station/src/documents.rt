@@ -1,16 +1,20 @@
 // The calls on a document, as packets in and answers out (docs/RULES.md, "From C").
-ghost use Prim.Native.Nat.{_≤_};
+ghost use Prim.Native.Nat.{_*_, _≤_};
 ghost use lib.ListN.{length};
+ghost use Rattle.tables.specs.Column.{blocks};
 ghost use Rattle.tables.specs.Document.{documentOf};
-ghost use Rattle.station.specs.Documents.{AfterRules, ReadsAsked, AnswersPackets, StartsPackets};
-use crate::halves;
+ghost use Rattle.packets.specs.Bytes.{halfBytes};
+ghost use Rattle.station.specs.Documents.{AnswersPackets, StartsPackets};
+ghost use Rattle.station.specs.inner.Reading.{AfterRules, ReadsBoth};
+ghost use Rattle.station.specs.inner.Putting.{Puts};
+use packets::bytes;
 use tables::Checked;
 use tables::Counted;
 use tables::Pattern;
 use tables::Refusal;
 
 // What reading a document packet and a pattern packet gives: the node count or the first refusal, and the pattern.
-struct AskedRead {
+struct NodesAndPattern {
     answer: Counted,
     pattern: Pattern,
 }
@@ -27,9 +31,14 @@ fn after_rules(parents: &[u16], labels: &[u16], r: Refusal) -> Refusal
 
 // The nodes of one packet, into two lists with room for any document, and the pattern of another. The document's rules are checked here only where the
 // pattern's packet is refused, since they come before it; else they are left to the call that answers, which checks them anyway.
-fn read_asked(document: &[u8], pattern: &[u8], parents: &mut [u16], labels: &mut [u16]) -> AskedRead
+fn read_nodes_and_pattern(
+    document: &[u8],
+    pattern: &[u8],
+    parents: &mut [u16],
+    labels: &mut [u16],
+) -> NodesAndPattern
     requires { ⌜ (2048 ≤ length (now parents)) × (2048 ≤ length (now labels)) ⌝ }
-    ensures { λ r. ⌜ ReadsAsked (now (document .entry)) (now (pattern .entry)) (now (parents .entry)) (now (labels .entry)) (r .answer) (r .pattern)
+    ensures { λ r. ⌜ ReadsBoth (now (document .entry)) (now (pattern .entry)) (now (parents .entry)) (now (labels .entry)) (r .answer) (r .pattern)
         (now (parents .exit)) (now (labels .exit)) ⌝ }
 {
     let x = packets::read_pattern(pattern);
@@ -38,25 +47,37 @@ fn read_asked(document: &[u8], pattern: &[u8], parents: &mut [u16], labels: &mut
     let n = match packets::read_nodes(document, parents, labels) {
         Counted::Count(n) => n,
         Counted::Refused(r) => {
-            return AskedRead {
+            return NodesAndPattern {
                 answer: Counted::Refused(r),
                 pattern: p,
             };
         }
     };
     match told {
-        Checked::Right => AskedRead {
+        Checked::Right => NodesAndPattern {
             answer: Counted::Count(n),
             pattern: p,
         },
         Checked::Refused(r) => {
             let q = after_rules(&parents[..n], &labels[..n], r);
-            AskedRead {
+            NodesAndPattern {
                 answer: Counted::Refused(q),
                 pattern: p,
             }
         }
     }
+}
+
+// The first c answers of a list as bytes, where the room has two for each of n nodes; the answer is c.
+fn put_answers(list: &[u16], c: usize, n: usize, room: &mut [u8]) -> Counted
+    requires { ⌜ (c ≤ length (now list)) × (c ≤ n) × (n ≤ 2048) ⌝ }
+    ensures { λ r. ⌜ Puts (2 * n) (blocks (halfBytes (now (list .entry))) c) (2 * c) c (now (room .entry)) r (now (room .exit)) ⌝ }
+{
+    if room.len() / 2 < n {
+        return Counted::Refused(Refusal::Room);
+    }
+    bytes::put_halves(list, c, room);
+    Counted::Count(c)
 }
 
 // The answers of a packet's pattern in a packet's document, as bytes.
@@ -67,20 +88,14 @@ pub(crate) fn answer_packets(document: &[u8], pattern: &[u8], room: &mut [u8]) -
     let mut labels = [0u16; 2048];
     let mut list = [0u16; 2048];
     let mut work = [0u64; 4096];
-    let x = read_asked(document, pattern, &mut parents, &mut labels);
+    let x = read_nodes_and_pattern(document, pattern, &mut parents, &mut labels);
     let read = x.answer;
     let n = match read {
         Counted::Count(n) => n,
         Counted::Refused(r) => return Counted::Refused(r),
     };
     match answers::answers(x.pattern, &parents[..n], &labels[..n], &mut list, &mut work) {
-        Counted::Count(c) => {
-            if room.len() / 2 < n {
-                return Counted::Refused(Refusal::Room);
-            }
-            halves::put_halves(&list, c, room);
-            Counted::Count(c)
-        }
+        Counted::Count(c) => put_answers(&list, c, n, room),
         Counted::Refused(r) => Counted::Refused(r),
     }
 }
@@ -99,7 +114,7 @@ pub(crate) fn start_packets(
     let mut from = [0u16; 2048];
     let mut list = [0u16; 2048];
     let mut work = [0u64; 4096];
-    let x = read_asked(document, pattern, &mut own_parents, &mut own_labels);
+    let x = read_nodes_and_pattern(document, pattern, &mut own_parents, &mut own_labels);
     let read = x.answer;
     let n = match read {
         Counted::Count(n) => n,
@@ -108,21 +123,12 @@ pub(crate) fn start_packets(
     let parents = &own_parents[..n];
     let labels = &own_labels[..n];
     let k = starts.len() / 2;
-    if starts.len() % 2 != 0 {
+    if starts.len() % 2 != 0 || n < k {
         return Counted::Refused(after_rules(parents, labels, Refusal::Start));
     }
-    if n < k {
-        return Counted::Refused(after_rules(parents, labels, Refusal::Start));
-    }
-    halves::get_halves(starts, k, &mut from);
+    bytes::get_halves(starts, 0, 2, k, &mut from);
     match answers::started(x.pattern, parents, labels, &from[..k], &mut list, &mut work) {
-        Counted::Count(c) => {
-            if room.len() / 2 < n {
-                return Counted::Refused(Refusal::Room);
-            }
-            halves::put_halves(&list, c, room);
-            Counted::Count(c)
-        }
+        Counted::Count(c) => put_answers(&list, c, n, room),
         Counted::Refused(r) => Counted::Refused(r),
     }
 }

@@ -10,7 +10,6 @@ ghost use Rattle.station.specs.Patterns.{JoinsPackets, RewritesPackets, 
 mod code;
 mod contained;
 mod documents;
-mod halves;
 mod lists;
 mod patterns;
 

@@ -1,9 +1,9 @@
 -- `asking::next_at` meets its contract: the input ends first, or the packet does. Assumes nothing.
 use Prim.Native.Nat.{_+_}
 use mathlib.Core.Path.{ap, _∙_}
+use Rattle.asking.proofs.Parts.{next-cut, next-whole}
 use native.Mathlib.Omega.{arith}
 use denote.Ref.{now}
-use Rattle.asking.proofs.Parts.{next-field, next-cut, next-whole}
 use borrow.Author.Needs.{needs}
 use Rattle.asking.proofs.next_at.Statement.{statement}
 use Rattle.asking.proofs.next_at.Tie as tie
@@ -15,16 +15,15 @@ returns c =
 
 returns-2 : tie.Need-returns-2
 returns-2 c =
-    let x = c .before .before .before .before .before .before in
-    let e = next-field (now (x .args .input)) (x .args .o) (c .before .half-of .result) (c .before .half-of .ensures) in
-    next-cut (now (x .args .input)) (x .args .o) (x .pre) (omega (arith, e))
+    let x = c .before .before .before .before in
+    next-cut (now (x .args .input)) (x .args .o) (x .pre) (omega (arith, c .before .get-half .ensures))
 
 returns-3 : tie.Need-returns-3
 returns-3 c =
-    let x = c .before .before .before .before .before .before in
-    let e = next-field (now (x .args .input)) (x .args .o) (c .before .half-of .result) (c .before .half-of .ensures) in
+    let x = c .before .before .before .before in
+    let e = c .before .get-half .ensures in
     ap (λ k. x .args .o + (k + 3)) e ∙ next-whole (now (x .args .input)) (x .args .o) (omega (arith, e))
 
 pub next-at-spec : {M : Type 1} → statement M
-next-at-spec = tie.close (tie.spec (λ c. search needs) returns (λ c. search needs) (λ c. search needs) (λ c. search needs) (λ c. search needs)
-    (λ c κs. search needs) (λ c. search needs) (λ c. search needs) returns-2 (λ c. search needs) returns-3)
+next-at-spec = tie.close (tie.spec (λ c. search needs) returns (λ c. search needs) (λ c κs. search needs) (λ c. search needs) (λ c. search needs)
+    returns-2 (λ c. search needs) returns-3)

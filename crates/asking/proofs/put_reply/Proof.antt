@@ -9,7 +9,8 @@ use Rattle.tables.specs.declared.Counted.the-variants.{Count, Refused}
 use Rattle.packets.specs.DocumentPacket.{ReadsDocument}
 use Rattle.asking.specs.Text.{documentWord}
 use Rattle.asking.specs.Parts.{documentPart}
-use Rattle.asking.proofs.Parts.{next-within, fronts, rules-pass}
+use Rattle.packets.proofs.Reading.{document-fronts}
+use Rattle.asking.proofs.Parts.{next-within, rules-pass}
 use Rattle.asking.proofs.Writing.{refused-short}
 use Rattle.asking.proofs.Answering.{number-small}
 use Rattle.asking.proofs.Replying.{DocumentRead, document-read, document-refused}
@@ -72,7 +73,7 @@ past-document-requires c κs =
     let a = c .before .before .before .before .before .before .before .before .before .before .before .before .next-at in
     let d = c .before .before .before .before .before .before .before .before .read-document in
     let h = read y in
-    let f = fronts (documentPart (now (x .args .input))) (d .last .1 .0) (d .last .1 .1 .0) _ _ (y .n .given .0 .0) (h .1 .0) (h .1 .1) (h .1 .2) in
+    let f = document-fronts (documentPart (now (x .args .input))) (d .last .1 .0) (d .last .1 .1 .0) _ _ (y .n .given .0 .0) (h .1 .0) (h .1 .1) (h .1 .2) in
     (a .ensures, (rules-pass (documentPart (now (x .args .input))) 2048 2048 (h .0), (f, omega (arith, x .pre))))
 
 returns : tie.Need-returns

@@ -44,7 +44,7 @@ loop-again c =
       output = l .inv .output;
       parents = padded-next (λ s. getD bs (4 + 4 * s) 0) _ (l .k) _ (omega arith) refl (l .inv .parents);
       axes = padded-next (λ s. getD bs (5 + 4 * s) 0) _ (l .k) _ (omega arith) refl (l .inv .axes);
-      labels = padded-next (λ s. half bs (6 + 4 * s)) _ (l .k) _ (omega arith) (c .half-at .ensures) (l .inv .labels);
+      labels = padded-next (λ s. half bs (6 + 4 * s)) _ (l .k) _ (omega arith) (c .get-half .ensures) (l .inv .labels);
     }
 
 returns : tie.Need-returns Inv-loop μ-loop

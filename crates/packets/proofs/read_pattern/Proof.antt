@@ -2,9 +2,13 @@
 use mathlib.Core.Path.{subst}
 use native.Mathlib.Omega.{arith}
 use denote.Ref.{now}
-use Rattle.tables.specs.Checks.{ChecksPattern}
+use Rattle.tables.specs.Checks.{patternRight, ChecksPattern}
+use Rattle.tables.specs.Refusal.{Passes, Refuses}
 use Rattle.tables.specs.declared.Counted.the-variants.{Count}
-use Rattle.packets.proofs.Reading.{Headed, pattern-head-refuses, pattern-rules-refuse, pattern-rules-pass}
+use Rattle.tables.proofs.Outcomes.{refuses-front, refuses-rest, passes-both}
+use Rattle.packets.specs.Header.{headChecks}
+use Rattle.packets.specs.PatternPacket.{packetPattern}
+use Rattle.packets.proofs.Reading.{Headed}
 use borrow.Author.Needs.{needs}
 use Rattle.packets.proofs.read_pattern.Statement.{statement}
 use Rattle.packets.proofs.read_pattern.Tie as tie
@@ -19,35 +23,35 @@ headed x = subst (Headed (now (entry x .args .s)) 1 64) (x .n .given .1) (x .bef
 
 returns : tie.Need-returns
 returns c =
-    let a = c .before .before .before .before .before .before .args in
-    let h = subst (Headed (now (a .s)) 1 64) (c .before .before .r .given .1) (c .before .before .before .before .rows-in .ensures) in
-    (pattern-head-refuses (now (a .s)) (c .before .before .r .given .0 .0) (h .0), c .no-pattern .ensures)
+    let bs = now (c .before .before .before .before .before .before .args .s) in
+    let h = subst (Headed bs 1 64) (c .before .before .r .given .1) (c .before .before .before .before .rows-in .ensures) in
+    (refuses-front (headChecks bs 1 64) (patternRight (packetPattern bs)) (c .before .before .r .given .0 .0) (h .0), c .no-pattern .ensures)
 
 pattern-in-requires : tie.Need-pattern-in-requires
 pattern-in-requires c κs =
     let h = headed (c .before) in
-    let z = h .0 .1 .1 .0 in
-    (omega (arith, z .2, z .3, h .1), omega (arith, z .3, z .4, h .1), h .1)
+    let z = h .0 .1 .1 .0 .1 in
+    (omega (arith, z .few, z .field, h .1), omega (arith, z .field, z .present, h .1), h .1)
 
 returns-2 : tie.Need-returns-2
 returns-2 c =
     let k = c .before .before in
-    let q = k .before in
-    let x = q .before .before in
-    let v = subst (ChecksPattern (q .pattern-in .result)) (c .enum-told .given .1) (k .check-pattern .ensures) in
-    (pattern-rules-pass (now (entry x .args .s)) (q .pattern-in .result) (q .pattern-in .ensures) (headed x .0) (v .0 .0), q .pattern-in .ensures)
+    let q = k .before .pattern-in in
+    let x = k .before .before .before in
+    let bs = now (entry x .args .s) in
+    let v = subst (λ p. Passes (patternRight p)) (q .ensures) (subst (ChecksPattern (q .result)) (c .enum-told .given .1) (k .check-pattern .ensures) .0) in
+    (passes-both (headChecks bs 1 64) (patternRight (packetPattern bs)) (headed x .0) v, q .ensures)
 
 returns-3 : tie.Need-returns-3
 returns-3 c =
     let y = c .before .before in
     let k = y .before .before in
-    let q = k .before in
-    let x = q .before .before in
-    let v = subst (ChecksPattern (q .pattern-in .result)) (y .r2 .given .1) (k .check-pattern .ensures) in (
-      pattern-rules-refuse (now (entry x .args .s)) (q .pattern-in .result) (q .pattern-in .ensures) (headed x .0) (y .r2 .given .0 .0) (v .0),
-      c .no-pattern2
-          .ensures,
-    )
+    let q = k .before .pattern-in in
+    let x = k .before .before .before in
+    let bs = now (entry x .args .s) in
+    let v = subst (λ p. Refuses (patternRight p) (y .r2 .given .0 .0)) (q .ensures)
+    (subst (ChecksPattern (q .result)) (y .r2 .given .1) (k .check-pattern .ensures) .0) in
+    (refuses-rest (headChecks bs 1 64) (patternRight (packetPattern bs)) (y .r2 .given .0 .0) (headed x .0) v, c .no-pattern2 .ensures)
 
 pub read-pattern-spec : {M : Type 1} → statement M
 read-pattern-spec = tie.close (tie.spec (λ c κs. search needs) (λ c. search needs) (λ c. search needs) (λ c κs. search needs) returns

@@ -1,34 +1,28 @@
 -- `station::lists::list_answers` meets its contract: the packet is read, and the call answers. Assumes nothing.
-use mathlib.Core.Path.{_≡_, refl, subst}
-use denote.Ref.{now}
+use mathlib.Core.Path.{refl}
 use Rattle.tables.specs.Document.{documentOf}
-use Rattle.tables.specs.Pattern.{zeroPattern}
-use Rattle.tables.specs.Refusal.{Decided}
-use Rattle.packets.specs.PatternPacket.{patternChecks}
-use Rattle.station.specs.Patterns.{packetPattern}
 use Rattle.station.proofs.ListCalls.{list-unread, list-read}
+use denote.Ref.{now}
 use borrow.Author.Needs.{needs}
 use Rattle.station.proofs.lists.list_answers.Statement.{statement}
 use Rattle.station.proofs.lists.list_answers.Tie as tie
 
 returns : tie.Need-returns
 returns c =
-    let x = c .before .before .before .read-pattern in
-    let a = c .before .before .before .before .before .before .before .before .before .args in
-    let h = subst (λ r. Decided (patternChecks (now (a .pattern))) r (x .result .pattern ≡ packetPattern (now (a .pattern)))
-    (x .result .pattern ≡ zeroPattern)) (c .before .read .given .1) (x .ensures) in
-    list-unread (documentOf (now (a .parents)) (now (a .labels))) (now (a .pattern)) (now (a .list)) (now (a .work)) _ _
-    (c .before .read .given .0 .0) (h .0) refl refl
+    let x = c .before .before .before in
+    let a = x .before .before .before .before .before .before .args in
+    list-unread (documentOf (now (a .parents)) (now (a .labels))) (now (a .pattern)) (now (a .list)) (now (a .work)) _ _ (x .read-pattern .result)
+    (x .read-pattern .ensures) (c .before .read .given .0 .0) (c .before .read .given .1) refl refl
 
 returns-2 : tie.Need-returns-2
 returns-2 c =
-    let x = c .before .before .before .before .before .before .before .before .before .read-pattern in
-    let a = c .before .before .before .before .before .before .before .before .before .before .before .before .before .before .before .args in
+    let x = c .before .before .before .before .before .before .before .before .before in
+    let a = x .before .before .before .before .before .before .args in
     let w = c .before .before .before .before .answers in
-    let h = subst (λ r. Decided (patternChecks (now (a .pattern))) r (x .result .pattern ≡ packetPattern (now (a .pattern)))
-    (x .result .pattern ≡ zeroPattern)) (c .before .before .before .before .before .before .before .enum-told .given .1) (x .ensures) in
     list-read (documentOf (now (a .parents)) (now (a .labels))) (now (a .pattern)) (now (a .list)) (now (a .work)) (w .last .1 .1 .1 .0)
-    (w .last .1 .1 .1 .1 .0) (x .result .pattern) (w .result) h (w .ensures)
+    (w .last .1 .1 .1 .1 .0)
+    (x .read-pattern .result) (x .read-pattern .ensures) (w .result) (c .before .before .before .before .before .before .before .enum-told .given .1)
+    (w .ensures)
 
 pub list-answers-spec : {M : Type 1} → statement M
 list-answers-spec = tie.close (tie.spec (λ c κs. search needs) (λ c. search needs) returns (λ c. search needs) (λ c κs. search needs)

@@ -1,48 +1,32 @@
 -- `station::patterns::rewrite_packets` meets its contract: both packets are read, and what rewriting hands over is written. Assumes nothing.
-use mathlib.Core.Path.{refl, subst}
-use denote.Ref.{now}
-use Rattle.tables.specs.declared.Checked.the-variants.{Right}
-use Rattle.station.specs.Patterns.{ReadsTwo}
-use Rattle.station.proofs.PatternCalls.{rewrites-unread, rewrite-refused, rewrite-none, rewrite-handed}
+use mathlib.Core.Path.{refl}
+use Rattle.station.proofs.PatternCalls.{rewrite-unread, rewrite-refused, rewrite-none, rewrite-handed}
 use borrow.Author.Needs.{needs}
 use Rattle.station.proofs.patterns.rewrite_packets.Statement.{statement}
 use Rattle.station.proofs.patterns.rewrite_packets.Tie as tie
 
--- past the first test both packets are read
-both : (x : tie.After-enum-told) → ReadsTwo (now (x .before .before .before .before .before .before .args .query))
-    (now (x .before .before .before .before .before .before .args .view)) Right (x .before .before .read-two .result .first)
-    (x .before .before .read-two .result .second)
-both x =
-    let t = x .before .before .read-two in
-    subst (λ r. ReadsTwo (now (x .before .before .before .before .before .before .args .query))
-    (now (x .before .before .before .before .before .before .args .view)) r (t .result .first) (t .result .second)) (x .enum-told .given .1) (t .ensures)
-
-returns : tie.Need-returns
-returns c =
-    let t = c .before .before .before .read-two in
-    let a = c .before .before .before .before .before .before .before .args in
-    let h = subst (λ r. ReadsTwo (now (a .query)) (now (a .view)) r (t .result .first) (t .result .second)) (c .before .read .given .1) (t .ensures) in
-    rewrites-unread _ _ _ _ _ _ (c .before .read .given .0 .0) h refl
-
 returns-2 : tie.Need-returns-2
 returns-2 c =
-    let j = c .before .before .before .before .before .before .rewrite in
+    let j = c .before .before .before .before .before .before in
     let w = c .before .before .write-pattern in
-    rewrite-handed _ _ (now (c .before .before .before .before .before .before .before .before .before .before .before .before .before .args .room))
-    (w .last .1 .0) _ _ (j .result) (both (c .before .before .before .before .before .before .before)) (j .ensures) (w .result)
+    rewrite-handed (j .before .before .before .read-two .ensures) (j .before .enum-told .given .1) (j .rewrite .result) (j .rewrite .ensures) (w .result)
     (c .before .before .before .before .enum-told2 .given .1) (w .ensures)
 
 returns-3 : tie.Need-returns-3
 returns-3 c =
-    let j = c .before .before .rewrite in
-    rewrite-none _ _ _ _ _ _ (j .result) (both (c .before .before .before)) (j .ensures) (c .enum-told3 .given .1) refl
+    let j = c .before .before in
+    rewrite-none (j .before .before .before .read-two .ensures) (j .before .enum-told .given .1) (j .rewrite .result) (j .rewrite .ensures)
+    (c .enum-told3 .given .1) refl
 
 returns-4 : tie.Need-returns-4
 returns-4 c =
-    let j = c .before .before .before .rewrite in
-    rewrite-refused _ _ _ _ _ _ (j .result) (both (c .before .before .before .before)) (j .ensures) (c .before .answer .given .0 .0)
+    let j = c .before .before .before in
+    rewrite-refused (j .before .before .before .read-two .ensures) (j .before .enum-told .given .1) (j .rewrite .result) (j .rewrite .ensures)
+    (c .before .answer .given .0 .0)
     (c .before .answer .given .1) refl
 
 pub rewrite-packets-spec : {M : Type 1} → statement M
-rewrite-packets-spec = tie.close (tie.spec (λ c κs. search needs) (λ c. search needs) returns (λ c. search needs) (λ c κs. search needs)
-    (λ c. search needs) (λ c κs. search needs) (λ c. search needs) (λ c. search needs) (λ c. search needs) returns-2 returns-3 returns-4)
+rewrite-packets-spec = tie.close (tie.spec (λ c κs. search needs) (λ c. search needs)
+    (λ c. rewrite-unread (c .before .before .before .read-two .ensures) (c .before .read .given .0 .0) (c .before .read .given .1) refl)
+    (λ c. search needs) (λ c κs. search needs) (λ c. search needs) (λ c κs. search needs) (λ c. search needs) (λ c. search needs) (λ c. search needs)
+    returns-2 returns-3 returns-4)

@@ -1,4 +1,4 @@
--- `station::halves::put_half` meets its contract: two stores in a row. Assumes nothing.
+-- `packets::bytes::put_half` meets its contract: two stores in a row. Assumes nothing.
 use Prim.Native.Nat.{suc, _+_}
 use mathlib.Core.Path.{_≡_}
 use mathlib.Core.List.{[], _∷_}
@@ -6,10 +6,10 @@ use native.Mathlib.Omega.{arith}
 use lib.ListN.{length-set}
 use lib.Seq.{sets-eq}
 use denote.Ref.{now}
 use Rattle.packets.specs.Bytes.{high, low}
 use borrow.Author.Needs.{needs}
-use Rattle.station.proofs.halves.put_half.Statement.{statement}
-use Rattle.station.proofs.halves.put_half.Tie as tie
+use Rattle.packets.proofs.bytes.put_half.Statement.{statement}
+use Rattle.packets.proofs.bytes.put_half.Tie as tie
 
 slice-write-out-2 : tie.Need-slice-write-out-2
 slice-write-out-2 c = simp length-set (omega arith)

@@ -1,0 +1,22 @@
+-- `packets::put_head` meets its contract: a byte and then a number. Assumes nothing.
+use mathlib.Core.Path.{refl, _∙_}
+use mathlib.Core.List.{[], _∷_}
+use native.Mathlib.Omega.{arith}
+use lib.ListN.{length-set}
+use lib.Seq.{sets-eq}
+use denote.Ref.{now}
+use Rattle.packets.specs.Bytes.{high, low}
+use Rattle.packets.proofs.Rows.{put-two}
+use borrow.Author.Needs.{needs}
+use Rattle.packets.proofs.put_head.Statement.{statement}
+use Rattle.packets.proofs.put_head.Tie as tie
+
+returns : tie.Need-returns
+returns c =
+    let a = c .before .before .before .before .before .args in
+    put-two (now (a .out)) _ _ (1 ∷ []) (high (a .field) ∷ low (a .field) ∷ []) 0 1 2 (omega arith) refl (sets-eq (1 ∷ []) (now (a .out)) 0 (omega arith))
+    (c .before .before .put-half .ensures)
+
+pub put-head-spec : {M : Type 1} → statement M
+put-head-spec = tie.close (tie.spec (λ c. search needs) (λ c κs. simp length-set (omega arith))
+    (λ c. c .before .before .put-half .kept .0 ∙ length-set (now (c .before .before .before .before .before .args .out)) 0 1) returns)
