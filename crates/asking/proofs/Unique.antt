@@ -21,24 +21,8 @@ use Rattle.rewriting.proofs.Rewritten.{candidate-unique}
 use Rattle.packets.specs.DocumentPacket.{documentRules}
 use Rattle.asking.specs.Text.{rewritingWord, viewWord, queryWord, documentWord, line, refusedLine}
 use Rattle.asking.specs.Parts.{documentPart, viewPart, queryPart}
-use Rattle.asking.specs.Replies.{
-  ThirdLine,
-  handed,
-  none,
-  refused,
-  Answered,
-  documentIn,
-  queryIn,
-  viewIn,
-  Replies,
-  document,
-  view,
-  query,
-  extra,
-  answered,
-  Printed,
-  ReplyOf,
-}
+use Rattle.asking.specs.Replies.{ThirdLine, handed, none, refused, Answered, documentIn, queryIn, viewIn, Replies, document, view, query, extra}
+use Rattle.asking.specs.Replies.{answered, Printed, ReplyOf}
 
 -- one third line fits
 third-unique : (d : Document) (Q U : Pattern) (starts s t : List ℕ) → ThirdLine d Q U starts s → ThirdLine d Q U starts t → s ≡ t
