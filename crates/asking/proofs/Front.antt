@@ -85,18 +85,7 @@ module _ (bs : List ℕ) (n : ℕ) (m : 8716 ≤ n) (l : n < length bs) where
   field-there : (o : ℕ) → o + 3 ≤ n → half (packetAt (take n bs) o) 1 ≡ half bs (o + 1)
   field-there o h = part-half (take n bs) o ∙ front-half o h
 
-  -- what refuses a pattern packet of the front refuses that of the input
-  pattern-front : (o : ℕ) (r : Refusal) → o ≤ 8455 → Refuses (patternChecks (packetAt (take n bs) o)) r → Refuses (patternChecks (packetAt bs o)) r
-  pattern-front o r h w = go (decLt n (o + (half bs (o + 1) + 3)))
-    where
-      go : Dec (n < o + (half bs (o + 1) + 3)) → Refuses (patternChecks (packetAt bs o)) r
-      go (no g) = subst (λ x. Refuses (patternChecks x) r) (same-part o (omega arith)) w
-      go (yes g) =
-          moved _ _ _ _ _ _ _ _ 2 1 2 3 r (part-long (take n bs) o (omega (arith, front-length))) (part-long bs o (omega arith))
-          (λ e. sym (version-there o (omega arith)) ∙ e) (λ e. version-there o (omega arith) ∙ e)
-          (λ z. omega (arith, z .1 .field, z .1 .few, field-there o (omega arith))) (λ z. omega (arith, z .1 .field, z .1 .few, part-half bs o)) w
-
-  -- the same for the document packet
+  -- what refuses the document packet of the front refuses that of the input
   document-front : (r : Refusal) → Refuses (documentRules (packetAt (take n bs) 0)) r → Refuses (documentRules (packetAt bs 0)) r
   document-front r w = go (decLt n (half bs 1 + 3))
     where
@@ -107,94 +96,74 @@ module _ (bs : List ℕ) (n : ℕ) (m : 8716 ≤ n) (l : n < length bs) where
           (λ e. sym (version-there 0 (omega arith)) ∙ e) (λ e. version-there 0 (omega arith) ∙ e)
           (λ z. omega (arith, z .1 .field, z .1 .few, field-there 0 (omega arith))) (λ z. omega (arith, z .1 .field, z .1 .few, part-half bs 0)) w
 
-  -- a packet that is right lies within the first n bytes
-  document-same : Passes (documentRules (packetAt (take n bs) 0)) → (packetAt (take n bs) 0 ≡ packetAt bs 0) × (nextAt (take n bs) 0 ≡ nextAt bs 0) ×
-      (nextAt bs 0 ≤ 8195)
-  unfolding nextAt
-  document-same p =
-      let z = p .1 .1 .0 in
-      let h : 0 + (half bs (0 + 1) + 3) ≤ n = omega (arith, z .1 .field, z .1 .few, field-there 0 (omega arith)) in
-      (same-part 0 h, same-next 0 h, omega (arith, ap length (same-part 0 h), z .1 .present, z .1 .few))
+  -- a packet begins at byte u of the front and at byte o of the input, which are one, and early enough
+  record Begins (u o : ℕ) : Type 0 where
+    same : u ≡ o
+    low : o ≤ 8455
 
-  -- the same for a pattern packet
-  pattern-same : (o : ℕ) → o ≤ 8455 → Passes (patternChecks (packetAt (take n bs) o))
-      → (packetAt (take n bs) o ≡ packetAt bs o) × (nextAt (take n bs) o ≡ nextAt bs o) × (nextAt bs o ≤ o + 260)
-  unfolding nextAt
-  pattern-same o k p =
-      let z = p .1 .1 .0 in
-      let h : o + (half bs (o + 1) + 3) ≤ n = omega (arith, z .1 .field, z .1 .few, field-there o (omega arith)) in
-      (same-part o h, same-next o h, omega (arith, ap length (same-part o h), z .1 .present, z .1 .few))
-
-  -- where the document packet is right, the view packet begins at the same byte
+  -- where the document packet is right, it lies within the first n bytes, and the next packet begins at one byte of both
   module _ (p : Passes (documentRules (packetAt (take n bs) 0))) where
-    -- it is right in the whole input too
+    document-within : 0 + (half bs (0 + 1) + 3) ≤ n
+    document-within = let z = p .1 .1 .0 in omega (arith, z .1 .field, z .1 .few, field-there 0 (omega arith))
+
     document-right : Passes (documentRules (packetAt bs 0))
-    document-right = subst (λ x. Passes (documentRules x)) (document-same p .0) p
+    document-right = subst (λ x. Passes (documentRules x)) (same-part 0 document-within) p
 
-    -- the view packet begins there
-    at-view : nextAt (take n bs) 0 ≡ nextAt bs 0
-    at-view = document-same p .1
+    document-low : nextAt bs 0 ≤ 8195
+    unfolding nextAt
+    document-low = let z = p .1 .1 .0 in omega (arith, ap length (same-part 0 document-within), z .1 .present, z .1 .few)
 
-    -- what refuses the view packet
-    view-front : (r : Refusal) → Refuses (patternChecks (packetAt (take n bs) (nextAt (take n bs) 0))) r → Refuses (patternChecks (packetAt bs (nextAt bs 0))) r
-    view-front r h = pattern-front (nextAt bs 0) r (omega (arith, document-same p .2))
-        (subst (λ o. Refuses (patternChecks (packetAt (take n bs) o)) r) at-view h)
+    view-begins : Begins (nextAt (take n bs) 0) (nextAt bs 0)
+    view-begins = record { same = same-next 0 document-within; low = omega (arith, document-low) }
 
-    -- and where the view packet is right, so does the query packet
-    module _ (q : Passes (patternChecks (packetAt (take n bs) (nextAt (take n bs) 0)))) where
-      -- the view packet, whole
-      view-same : (packetAt (take n bs) (nextAt bs 0) ≡ packetAt bs (nextAt bs 0)) × (nextAt (take n bs) (nextAt bs 0) ≡ nextAt bs (nextAt bs 0)) ×
-          (nextAt bs (nextAt bs 0) ≤ nextAt bs 0 + 260)
-      view-same = pattern-same (nextAt bs 0) (omega (arith, document-same p .2)) (subst (λ o. Passes (patternChecks (packetAt (take n bs) o))) at-view q)
+  module _ {u o : ℕ} (e : Begins u o) where
+    -- what refuses a pattern packet of the front refuses that of the input
+    pattern-front : (r : Refusal) → Refuses (patternChecks (packetAt (take n bs) u)) r → Refuses (patternChecks (packetAt bs o)) r
+    pattern-front r h = go (subst (λ k. Refuses (patternChecks (packetAt (take n bs) k)) r) (e .same) h) (decLt n (o + (half bs (o + 1) + 3)))
+      where
+        go : Refuses (patternChecks (packetAt (take n bs) o)) r → Dec (n < o + (half bs (o + 1) + 3)) → Refuses (patternChecks (packetAt bs o)) r
+        go w (no g) = subst (λ x. Refuses (patternChecks x) r) (same-part o (omega arith)) w
+        go w (yes g) =
+            let k = e .low in
+            moved _ _ _ _ _ _ _ _ 2 1 2 3 r (part-long (take n bs) o (omega (arith, front-length))) (part-long bs o (omega arith))
+            (λ y. sym (version-there o (omega arith)) ∙ y) (λ y. version-there o (omega arith) ∙ y)
+            (λ z. omega (arith, z .1 .field, z .1 .few, field-there o (omega arith))) (λ z. omega (arith, z .1 .field, z .1 .few, part-half bs o)) w
 
-      -- it is right in the whole input
-      view-right : Passes (patternChecks (packetAt bs (nextAt bs 0)))
-      view-right = subst (λ x. Passes (patternChecks x)) (ap (packetAt (take n bs)) at-view ∙ view-same .0) q
+    -- where it is right, it lies within the first n bytes, and what follows begins at one byte of both
+    module _ (q : Passes (patternChecks (packetAt (take n bs) u))) where
+      there : Passes (patternChecks (packetAt (take n bs) o))
+      there = subst (λ k. Passes (patternChecks (packetAt (take n bs) k))) (e .same) q
 
-      -- the query packet begins there
-      at-query : nextAt (take n bs) (nextAt (take n bs) 0) ≡ nextAt bs (nextAt bs 0)
-      at-query = ap (nextAt (take n bs)) at-view ∙ view-same .1
+      pattern-within : o + (half bs (o + 1) + 3) ≤ n
+      pattern-within = let z = there .1 .1 .0 in let k = e .low in omega (arith, z .1 .field, z .1 .few, field-there o (omega arith))
 
-      -- at the 8,455th byte at most
-      query-low : nextAt bs (nextAt bs 0) ≤ 8455
-      query-low = omega (arith, document-same p .2, view-same .2)
+      pattern-right : Passes (patternChecks (packetAt bs o))
+      pattern-right = subst (λ x. Passes (patternChecks x)) (same-part o pattern-within) there
 
-      -- what refuses the query packet
-      query-front : (r : Refusal) → Refuses (patternChecks (packetAt (take n bs) (nextAt (take n bs) (nextAt (take n bs) 0)))) r
-          → Refuses (patternChecks (packetAt bs (nextAt bs (nextAt bs 0)))) r
-      query-front r h = pattern-front (nextAt bs (nextAt bs 0)) r query-low (subst (λ o. Refuses (patternChecks (packetAt (take n bs) o)) r) at-query h)
+      pattern-next : nextAt (take n bs) u ≡ nextAt bs o
+      pattern-next = ap (nextAt (take n bs)) (e .same) ∙ same-next o pattern-within
 
-      -- where all three are right, they end within the first 8,715 bytes
-      module _ (s : Passes (patternChecks (packetAt (take n bs) (nextAt (take n bs) (nextAt (take n bs) 0))))) where
-        -- the query packet, whole
-        query-same : (packetAt (take n bs) (nextAt bs (nextAt bs 0)) ≡ packetAt bs (nextAt bs (nextAt bs 0))) ×
-            (nextAt (take n bs) (nextAt bs (nextAt bs 0)) ≡ nextAt bs (nextAt bs (nextAt bs 0)))
-            × (nextAt bs (nextAt bs (nextAt bs 0)) ≤ nextAt bs (nextAt bs 0) + 260)
-        query-same = pattern-same (nextAt bs (nextAt bs 0)) query-low (subst (λ o. Passes (patternChecks (packetAt (take n bs) o))) at-query s)
+      pattern-low : nextAt bs o ≤ o + 260
+      unfolding nextAt
+      pattern-low = let z = there .1 .1 .0 in omega (arith, ap length (same-part o pattern-within), z .1 .present, z .1 .few)
 
-        -- it is right in the whole input
-        query-right : Passes (patternChecks (packetAt bs (nextAt bs (nextAt bs 0))))
-        query-right = subst (λ x. Passes (patternChecks x)) (ap (packetAt (take n bs)) at-query ∙ query-same .0) s
-
-        -- the three packets end there
-        at-end : nextAt (take n bs) (nextAt (take n bs) (nextAt (take n bs) 0)) ≡ nextAt bs (nextAt bs (nextAt bs 0))
-        at-end = ap (nextAt (take n bs)) at-query ∙ query-same .1
-
-        -- within 8,715 bytes
-        end-low : nextAt bs (nextAt bs (nextAt bs 0)) ≤ 8715
-        end-low = omega (arith, query-low, query-same .2)
+  query-begins : (p : Passes (documentRules (packetAt (take n bs) 0))) → Passes (patternChecks (packetAt (take n bs) (nextAt (take n bs) 0)))
+      → Begins (nextAt (take n bs) (nextAt (take n bs) 0)) (nextAt bs (nextAt bs 0))
+  query-begins p q = record { same = pattern-next (view-begins p) q; low = omega (arith, document-low p, pattern-low (view-begins p) q) }
 
   -- so the front's text is that of the input, whichever case it is
   long-front : (text : List ℕ) → Replies (take n bs) text → Replies bs text
   long-front text (document r h e) = document r (document-front r h) e
-  long-front text (view r p h e) = view r (document-right p) (view-front p r h) e
-  long-front text (query r p h e) = query r (document-right (p .0), view-right (p .0) (p .1)) (query-front (p .0) (p .1) r h) e
+  long-front text (view r p h e) = view r (document-right p) (pattern-front (view-begins p) r h) e
+  long-front text (query r p h e) =
+      query r (document-right (p .0), pattern-right (view-begins (p .0)) (p .1)) (pattern-front (query-begins (p .0) (p .1)) r h) e
   long-front text (extra p h e) =
-      let u = p .0 .0 in
-      let v = p .0 .1 in
-      extra ((document-right u, view-right u v), query-right u v (p .1)) (omega (arith, end-low u v (p .1))) e
+      let v = view-begins (p .0 .0) in
+      let q = query-begins (p .0 .0) (p .0 .1) in
+      extra ((document-right (p .0 .0), pattern-right v (p .0 .1)), pattern-right q (p .1)) (omega (arith, q .low, pattern-low q (p .1))) e
   long-front text (answered p h a) =
-      absurd (omega (arith, front-length, at-end (p .0 .0) (p .0 .1) (p .1), end-low (p .0 .0) (p .0 .1) (p .1)))
+      let q = query-begins (p .0 .0) (p .0 .1) in
+      absurd (omega (arith, front-length, q .low, pattern-next q (p .1), pattern-low q (p .1)))
 
 -- the text for the first n bytes is the text for the input, where n is at least one more than right input has
 pub replies-front : (bs : List ℕ) (n : ℕ) → 8716 ≤ n → (text : List ℕ) → Replies (take n bs) text → Replies bs text
