@@ -37,8 +37,7 @@ decimal-small n l = digits-small n n l
 -- a number of more digits
 pub decimal-large : (n : ℕ) → 10 ≤ n → decimal n ≡ decimal (n / 10) ++ ((48 + n % 10) ∷ [])
 unfolding decimal
-decimal-large n l =
-    digits-large n n l ∙ ap (λ ds. ds ++ ((48 + n % 10) ∷ [])) (digits-enough n (suc (n / 10)) (n / 10) (omega arith) (omega arith))
+decimal-large n l = digits-large n n l ∙ ap (λ ds. ds ++ ((48 + n % 10) ∷ [])) (digits-enough n (suc (n / 10)) (n / 10) (omega arith) (omega arith))
 
 -- has one digit more than its tenth part
 pub decimal-large-length : (n : ℕ) → 10 ≤ n → length (decimal n) ≡ length (decimal (n / 10)) + 1

@@ -18,9 +18,7 @@ use Rattle.asking.specs.Replies.{Replies, document, view, query, extra, 
 -- the first three bytes of a packet are those of the input
 part-half : (bs : List ℕ) (o : ℕ) → half (packetAt bs o) 1 ≡ half bs (o + 1)
 unfolding packetAt
-part-half bs o =
-    let e : o + 1 + 1 ≡ o + 2 = omega arith in
-    ap₂ (λ x y. x * 256 + y) (byte 1 (omega arith)) (byte 2 (omega arith)) ∙ rw e
+part-half bs o = let e : o + 1 + 1 ≡ o + 2 = omega arith in ap₂ (λ x y. x * 256 + y) (byte 1 (omega arith)) (byte 2 (omega arith)) ∙ rw e
   where
     byte : (k : ℕ) → k < half bs (o + 1) + 3 → getD (take (half bs (o + 1) + 3) (drop o bs)) k 0 ≡ getD bs (o + k) 0
     byte k l = getD-take (half bs (o + 1) + 3) (drop o bs) k 0 l ∙ getD-drop o bs k 0
@@ -28,9 +26,7 @@ part-half bs o =
 -- the version byte
 part-version : (bs : List ℕ) (o : ℕ) → getD (packetAt bs o) 0 0 ≡ getD bs o 0
 unfolding packetAt
-part-version bs o =
-    let e : o + 0 ≡ o = omega arith in
-    getD-take (half bs (o + 1) + 3) (drop o bs) 0 0 (omega arith) ∙ getD-drop o bs 0 0 ∙ rw e
+part-version bs o = let e : o + 0 ≡ o = omega arith in getD-take (half bs (o + 1) + 3) (drop o bs) 0 0 (omega arith) ∙ getD-drop o bs 0 0 ∙ rw e
 
 -- where three bytes are left, the packet has them
 part-long : (bs : List ℕ) (o : ℕ) → o + 3 ≤ length bs → 3 ≤ length (packetAt bs o)
@@ -48,8 +44,7 @@ moved : (A B C D A′ B′ C′ D′ : Type 0) (i j k l : ℕ) (r : Refusal) →
 moved A B C D A′ B′ C′ D′ i j k l r a b f g c d h =
     ⊎-elim (λ w. absurd (w .0 a)) (λ w. inr (
       b,
-      ⊎-elim (λ x. inl ((λ y. x .0 (g y)), x .1))
-          (λ x. inr (f (x .0), ⊎-elim (λ y. inl (d, y .1)) (λ y. absurd (c (y .0))) (x .1))) (w .1),
+      ⊎-elim (λ x. inl ((λ y. x .0 (g y)), x .1)) (λ x. inr (f (x .0), ⊎-elim (λ y. inl (d, y .1)) (λ y. absurd (c (y .0))) (x .1))) (w .1),
     )) h
 
 -- an input of more than n bytes, and its first n

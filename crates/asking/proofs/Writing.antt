@@ -105,9 +105,7 @@ spaced-next b at list i next r out a l m e w c = record {
 pub spaced-all : (b : List ℕ) (at : ℕ) (list : List ℕ) (i next : ℕ) (out : List ℕ) → length list ≤ i → Spaced b at list i next out → Wrote b at (spaced list)
     next out
 unfolding spaced
-spaced-all b at list i next out l c =
-    let e : i ≡ length list = omega (arith, c .low) in
-    rw e at (c .wrote)
+spaced-all b at list i next out l c = let e : i ≡ length list = omega (arith, c .low) in rw e at (c .wrote)
 
 -- how long numbers below 10,000 are, each after a space
 blocks-short : (f : ℕ → ℕ) (n : ℕ) → ((k : ℕ) → k < n → f k < 10000) → length (blocks (λ k. item (f k)) n) ≤ 5 * n
@@ -131,8 +129,7 @@ line-length w xs =
 -- a line of at most 2,048 numbers, all below 10,000
 pub line-short : (w xs : List ℕ) → length xs ≤ 2048 → ((k : ℕ) → k < length xs → getD xs k 0 < 10000) → length (line w xs) ≤ length w + 10247
 unfolding spaced
-line-short w xs l h =
-    omega (arith, line-length w xs, blocks-short (λ k. getD xs k 0) (length xs) h, length-4 (length xs) (omega arith))
+line-short w xs l h = omega (arith, line-length w xs, blocks-short (λ k. getD xs k 0) (length xs) h, length-4 (length xs) (omega arith))
 
 -- the parts of a refusal's line
 pub refused-length : (k : ℕ) (w : List ℕ) → length (refusedLine k w) ≡ 7 + length (item k) + 1 + length w + 1

@@ -45,15 +45,13 @@ module _ {A B C AB BC L R : Shape} {b c d : ℕ} (ab : Joined A B AB b) (l : Joi
         arith,
         ap (renumber (AB .output) c) x,
         renumber-high (AB .output) c (s + b) (omega (arith, ab .output, ab .more)),
-        renumber-high
-            (A .output) d s h,
+        renumber-high (A .output) d s h,
         sums,
       ))
 
   -- and of a step of B
   of-b : (t : ℕ) → renumber (AB .output) c (A .output + t) ≡ A .output + renumber (B .output) c t
-  of-b t = renumber-cases (B .output) c t
-      (λ h x. omega (arith, renumber-low (AB .output) c (A .output + t) (omega (arith, ab .output))))
+  of-b t = renumber-cases (B .output) c t (λ h x. omega (arith, renumber-low (AB .output) c (A .output + t) (omega (arith, ab .output))))
       (λ h x. omega (arith, renumber-high (AB .output) c (A .output + t) (omega (arith, ab .output))))
 
   -- a step of the whole comes from A, B or C
@@ -113,8 +111,7 @@ module _ {A B C AB BC L R : Shape} {b c d : ℕ} (ab : Joined A B AB b) (l : Joi
   joined-assoc = record {
     size = omega (arith, l .size, ab .size, r .size, sums);
     output = omega (arith, l .output, ab .output, r .output, bc .output);
-    parent = λ u h. ⊎-elim
-        (λ z. ap (L .tree .parent) z ∙ l .root ∙ ab .root ∙ sym (ap (R .tree .parent) z ∙ r .root))
+    parent = λ u h. ⊎-elim (λ z. ap (L .tree .parent) z ∙ l .root ∙ ab .root ∙ sym (ap (R .tree .parent) z ∙ r .root))
         (λ p. parent-same u p (origin u h)) (eq-zero-or-pos u);
     axis = λ u h. column-same (axes ab) (axes l) (axes bc) (axes r) u (origin u h);
     label = λ u h. column-same (labels ab) (labels l) (labels bc) (labels r) u (origin u h);
@@ -185,7 +182,6 @@ join-assoc A B C p q v w = pairs-assoc (pair-of A B p) (pair-of (joinOf A B) C q
 -- it is enough that one way is accepted
 pub join-assoc-either : (A B C : Pattern) → (Joinable A B × Joinable (joinOf A B) C) ⊎ (Joinable B C × Joinable A (joinOf B C)) → joinOf (joinOf A B) C ≡
     joinOf A (joinOf B C)
-join-assoc-either A B C h = ⊎-elim
-    (λ x. let y = join-assoc-accepted A B C .0 x in join-assoc A B C (x .0) (x .1) (y .0) (y .1))
+join-assoc-either A B C h = ⊎-elim (λ x. let y = join-assoc-accepted A B C .0 x in join-assoc A B C (x .0) (x .1) (y .0) (y .1))
     (λ y. let x = join-assoc-accepted A B C .1 y in join-assoc A B C (x .0) (x .1) (y .0) (y .1))
     h

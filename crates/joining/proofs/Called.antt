@@ -49,8 +49,7 @@ module _ (A B C : Pattern) (ab l bc r : JoinAnswer) (jab : Joins A B ab) (jl : J
       λ w. (called-accepts A B ab jab .0 (w .0), subst (λ p. Joinable p C) (called-gives A B ab jab (w .0)) (called-accepts (ab .pattern) C l jl .0 (w .1))),
       λ w. let e = called-accepts A B ab jab .1 (w .0) in (
         e,
-        called-accepts (ab .pattern) C l jl .1
-            (subst (λ p. Joinable p C) (sym (called-gives A B ab jab e)) (w .1)),
+        called-accepts (ab .pattern) C l jl .1 (subst (λ p. Joinable p C) (sym (called-gives A B ab jab e)) (w .1)),
       ),
     )
 
@@ -60,8 +59,7 @@ module _ (A B C : Pattern) (ab l bc r : JoinAnswer) (jab : Joins A B ab) (jl : J
       λ w. (called-accepts B C bc jbc .0 (w .0), subst (Joinable A) (called-gives B C bc jbc (w .0)) (called-accepts A (bc .pattern) r jr .0 (w .1))),
       λ w. let e = called-accepts B C bc jbc .1 (w .0) in (
         e,
-        called-accepts A (bc .pattern) r jr .1
-            (subst (Joinable A) (sym (called-gives B C bc jbc e)) (w .1)),
+        called-accepts A (bc .pattern) r jr .1 (subst (Joinable A) (sym (called-gives B C bc jbc e)) (w .1)),
       ),
     )
 

@@ -44,8 +44,7 @@ both o e f g u = byPart o e u (f u) (g (u - o)) (f (u - e))
 -- on a step of the view
 pub both-view : (o e : ℕ) (f g : ℕ → ℕ) (s u : ℕ) → u ≡ renumber o e s → both o e f g u ≡ f s
 unfolding both
-both-view o e f g s u h = renumber-cases o e s
-    (λ l k. part-front o e u (f u) (g (u - o)) (f (u - e)) (omega arith) ∙ ap f (omega arith))
+both-view o e f g s u h = renumber-cases o e s (λ l k. part-front o e u (f u) (g (u - o)) (f (u - e)) (omega arith) ∙ ap f (omega arith))
     (λ l k. part-rest o e u (f u) (g (u - o)) (f (u - e)) (omega arith) ∙ ap f (omega arith))
 
 -- on a step of the tail

@@ -33,8 +33,7 @@ module _ {T : Tree} (v : Ordered T) {c u : ℕ} (r : Taken T c u) where
       record {
         past = omega (arith, r .past);
         here = omega arith;
-        each = λ x k m. below-or-at {u = x} {k = u} (omega arith) (r .each x k)
-            (λ e. subst (From T c) {x = u} (omega arith) w);
+        each = λ x k m. below-or-at {u = x} {k = u} (omega arith) (r .each x k) (λ e. subst (From T c) {x = u} (omega arith) w);
       }
 
   -- where no row from u on is, the run is whole

@@ -20,8 +20,7 @@ module _ {B : Shape} (A : Shape) {m : ℕ → ℕ} (vb : Ordered (B .tree)) (va 
 
   stretch-below : {s t : ℕ} → Below (B .tree) s t → depth (B .tree) t + depth (A .tree) (m s) ≤ depth (A .tree) (m t) + depth (B .tree) s
   stretch-below {s} {t} (child c) = omega (arith, depth-child vb s t c, depth-below va (below-sends p (child c)))
-  stretch-below {s} {t} (under {m = r} c b) =
-      omega (arith, depth-child vb r t c, stretch-below b, depth-below va (below-sends p (child c)))
+  stretch-below {s} {t} (under {m = r} c b) = omega (arith, depth-child vb r t c, stretch-below b, depth-below va (below-sends p (child c)))
 
   stretch : (s t : ℕ) → From (B .tree) s t → depth (B .tree) t + depth (A .tree) (m s) ≤ depth (A .tree) (m t) + depth (B .tree) s
   stretch s t w = ⊎-elim (λ e. omega (arith, ap (depth (B .tree)) e, ap (λ x. depth (A .tree) (m x)) e)) stretch-below w

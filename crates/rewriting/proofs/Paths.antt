@@ -46,15 +46,13 @@ module _ {Q U : Shape} (vq : ValidShape Q) (vu : ValidShape U) {s t : ℕ} (l : 
   up v i p h = record { late = p; here = h; up = refl }
 
   late : 0 < t → 0 < s
-  late p = ⊎-elim
-      (λ z. absurd (omega (
-        arith,
-        l .deep,
-        ap (depth (Q .tree)) z,
-        depth-zero (Q .tree),
-        depth-child (shape-ordered vu) (U .tree .parent t) t
-            (up vu t p view-here),
-      )))
+  late p = ⊎-elim (λ z. absurd (omega (
+    arith,
+    l .deep,
+    ap (depth (Q .tree)) z,
+    depth-zero (Q .tree),
+    depth-child (shape-ordered vu) (U .tree .parent t) t (up vu t p view-here),
+  )))
       (λ q. q)
       (eq-zero-or-pos s)
 

@@ -181,8 +181,7 @@ rewriting-exact Q U vq vu q u = (
   λ w. let k = candidate-there Q U (w .0) vq vu (w .1) in (
     patternOf (cutShape (shapeOf Q) (cutStep (shapeOf Q) (shapeOf U))),
     k,
-    candidate-serves Q U (w .0) vq vu (w .1)
-        (patternOf (cutShape (shapeOf Q) (cutStep (shapeOf Q) (shapeOf U)))) k q u,
+    candidate-serves Q U (w .0) vq vu (w .1) (patternOf (cutShape (shapeOf Q) (cutStep (shapeOf Q) (shapeOf U)))) k q u,
   ),
   λ w. (w .0, w .2),
 )

@@ -28,17 +28,14 @@ module _ {U E J : Shape} {e : ℕ} (j : Joined U E J e) (lo : U .output < U .tre
       let z : s ≡ 0 = omega arith in
       ap (λ x. depth (J .tree) (renumber (U .output) e x)) z ∙ ap (depth (J .tree)) (renumber-zero j lo) ∙ depth-zero (J .tree) ∙ sym (depth-zero (U .tree)) ∙
       ap (depth (U .tree)) (sym z)
-  view-depth-to (suc k) s m l = ⊎-elim
-      (λ z. view-depth-to k s (omega arith) l)
-      (λ p. let q : ℕ = U .tree .parent s in
+  view-depth-to (suc k) s m l = ⊎-elim (λ z. view-depth-to k s (omega arith) l) (λ p. let q : ℕ = U .tree .parent s in
       let c : Child (U .tree) q s = record { late = p; here = l; up = refl } in
       let g : q < s = below-lt vu (child c) in
       omega (
         arith,
         depth-child vu q s c,
         depth-child vj (renumber (U .output) e q) (renumber (U .output) e s) (view-child j lo c),
-        view-depth-to k q
-            (omega arith) (omega arith),
+        view-depth-to k q (omega arith) (omega arith),
       ))
       (eq-zero-or-pos s)
 
@@ -136,8 +133,7 @@ module _ {Q U E J C : Shape} {e c : ℕ} {h g : ℕ → ℕ} (x : EqualJoin Q U 
           first = λ a. let s = x .back .first (axis-j ∙ sym axis-k ∙ a) in (
             both-view (U .output) k (λ s. g (renumber (U .output) e s)) (λ t. c + t) 0 0 (sym (renumber-zero jk (x .view-output))) ∙ ap g
                 (renumber-zero (x .joined) (x .view-output)) ∙ s .0,
-            s
-                .1,
+            s .1,
           );
           output = ap kq (jk .output) ∙ both-tail (U .output) k (λ s. g (renumber (U .output) e s)) (λ t. c + t) z (C .output) (omega (arith, jk .more)) ∙ sym
               (w .cut .output);
@@ -162,8 +158,7 @@ module _ {Q U E J C : Shape} {e c : ℕ} {h g : ℕ → ℕ} (x : EqualJoin Q U 
               (split-tail jk (x .view-output) same-label (rowsOf K) (identity K))) z;
           first = λ a. (
             both-view (U .output) e (renumber (U .output) k) tail-jk 0 0 (sym (renumber-zero (x .joined) (x .view-output))) ∙ renumber-zero jk (x .view-output),
-            axis-k ∙ sym axis-j ∙
-                a,
+            axis-k ∙ sym axis-j ∙ a,
           );
           output = ap jk-map (x .joined .output) ∙ both-tail (U .output) e (renumber (U .output) k) tail-jk z (E .output) (omega (arith, x .joined .more)) ∙
               omega

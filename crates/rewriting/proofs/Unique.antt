@@ -19,8 +19,7 @@ answers-unique Q U (rewriting.Refused r) rewriting.Handed p q h k = absurd (refu
 answers-unique Q U (rewriting.Refused r) rewriting.Nothing p q h k = absurd (refuses-not-passes (rewritingChecks Q U) r (h .0) (k .0))
 answers-unique Q U (rewriting.Refused r) (rewriting.Refused s) p q h k = (
   ap rewriting.Refused (refuses-unique (rewritingChecks Q U) r s (h .0) (k .0)),
-  h .1
-      ∙ sym (k .1),
+  h .1 ∙ sym (k .1),
 )
 
 -- two answers to one call are one

@@ -9,14 +9,10 @@ use Rattle.asking.proofs.next_at.Statement.{statement}
 use Rattle.asking.proofs.next_at.Tie as tie
 
 returns : tie.Need-returns
-returns c =
-    let a = c .before .before .args in
-    next-cut (now (a .input)) (a .o) (c .before .before .pre) (omega arith)
+returns c = let a = c .before .before .args in next-cut (now (a .input)) (a .o) (c .before .before .pre) (omega arith)
 
 returns-2 : tie.Need-returns-2
-returns-2 c =
-    let x = c .before .before .before .before in
-    next-cut (now (x .args .input)) (x .args .o) (x .pre) (omega (arith, c .before .get-half .ensures))
+returns-2 c = let x = c .before .before .before .before in next-cut (now (x .args .input)) (x .args .o) (x .pre) (omega (arith, c .before .get-half .ensures))
 
 returns-3 : tie.Need-returns-3
 returns-3 c =

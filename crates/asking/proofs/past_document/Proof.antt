@@ -96,9 +96,7 @@ returns-2 c =
     (told .queried .given .0 .0) (q .pattern-at2 .result .pattern) (m .result) (m .ensures) u (c .before .before .put-refused2 .ensures)
 
 next-at-requires-2 : tie.Need-next-at-requires-2
-next-at-requires-2 c κs =
-    let q = queried c in
-    omega (arith, q .before .next-at .ensures, query-begins (start (viewed (first q))))
+next-at-requires-2 c κs = let q = queried c in omega (arith, q .before .next-at .ensures, query-begins (start (viewed (first q))))
 
 put-refused-requires-3 : tie.Need-put-refused-requires-3
 put-refused-requires-3 c κs =

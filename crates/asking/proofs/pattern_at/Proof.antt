@@ -12,19 +12,13 @@ use Rattle.asking.proofs.pattern_at.Statement.{statement}
 use Rattle.asking.proofs.pattern_at.Tie as tie
 
 sub-read-pattern : tie.Need-sub-read-pattern
-sub-read-pattern c =
-    let x = c .before .before in
-    omega (arith, c .next-at .ensures, next-within (now (x .args .input)) (x .args .o) (x .pre) .0)
+sub-read-pattern c = let x = c .before .before in omega (arith, c .next-at .ensures, next-within (now (x .args .input)) (x .args .o) (x .pre) .0)
 
 part-read-pattern-start : tie.Need-part-read-pattern-start
-part-read-pattern-start c =
-    let x = c .before .before in
-    omega (arith, c .next-at .ensures, next-within (now (x .args .input)) (x .args .o) (x .pre) .0)
+part-read-pattern-start c = let x = c .before .before in omega (arith, c .next-at .ensures, next-within (now (x .args .input)) (x .args .o) (x .pre) .0)
 
 part-read-pattern-end : tie.Need-part-read-pattern-end
-part-read-pattern-end c =
-    let x = c .before .before in
-    omega (arith, c .next-at .ensures, next-within (now (x .args .input)) (x .args .o) (x .pre) .1)
+part-read-pattern-end c = let x = c .before .before in omega (arith, c .next-at .ensures, next-within (now (x .args .input)) (x .args .o) (x .pre) .1)
 
 returns : tie.Need-returns
 returns c =
@@ -35,5 +29,4 @@ returns c =
     subst (λ l. ReadsPattern l (c .read-pattern .result)) e (c .read-pattern .ensures)
 
 pub pattern-at-spec : {M : Type 1} → statement M
-pattern-at-spec = tie.close (tie.spec (λ c κs. search needs) sub-read-pattern part-read-pattern-start part-read-pattern-end (λ c κs. search needs)
-    returns)
+pattern-at-spec = tie.close (tie.spec (λ c κs. search needs) sub-read-pattern part-read-pattern-start part-read-pattern-end (λ c κs. search needs) returns)

@@ -32,9 +32,7 @@ query-short y =
     (f .last .1 .1 .1 .0) (x .pre .1 .1 .0) (f .kept .1 .1 .1 .0) (f .ensures)
 
 put-line-requires : tie.Need-put-line-requires
-put-line-requires c κs =
-    let y = c .before .before .before .before .before in
-    omega (arith, entry y .pre .1 .1 .1, view-short y)
+put-line-requires c κs = let y = c .before .before .before .before .before in omega (arith, entry y .pre .1 .1 .1, view-short y)
 
 put-line-requires-2 : tie.Need-put-line-requires-2
 put-line-requires-2 c κs =

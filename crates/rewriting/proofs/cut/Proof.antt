@@ -64,8 +64,7 @@ returns c =
     let a = x .before in (
       cutShape (shapeOf (a .args .t1)) (a .args .c),
       cut-is (a .args .t1) (a .pre .0) (a .args .c) (a .pre .1),
-      filled-all (c .before .loop .inv .1)
-          (omega (arith, sized x)),
+      filled-all (c .before .loop .inv .1) (omega (arith, sized x)),
     )
 
 pub cut-spec : {M : Type 1} → statement M

@@ -45,8 +45,7 @@ entry x = both x .before .before .before .before .before .before
 
 -- there every check holds
 passes : (x : tie.Else2) → Passes (rewritingChecks (entry x .args .q) (entry x .args .v))
-passes x =
-    (query (both x .before .before .before), (view (both x), ((omega arith, ltb-false 32 (entry x .args .v .count) (x .if2 .left)), tt)))
+passes x = (query (both x .before .before .before), (view (both x), ((omega arith, ltb-false 32 (entry x .args .v .count) (x .if2 .left)), tt)))
 
 -- the pattern found is the candidate
 there : (x : tie.Else3) → Candidate (entry (x .before .before .before) .args .q) (entry (x .before .before .before) .args .v)

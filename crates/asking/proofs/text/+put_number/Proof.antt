@@ -20,12 +20,10 @@ abbrev μ-put-number : Measures 1 put-number-kinds.ps ℕ
 
 -- what the function is given at the measure t, and what a call of it asks below t
 abbrev put-number-at : ℕ → In 1 put-number-kinds.ps
-put-number-at t =
-    and 1 put-number-kinds.ps (is 1 put-number-kinds.ps μ-put-number t) put-number.Pre
+put-number-at t = and 1 put-number-kinds.ps (is 1 put-number-kinds.ps μ-put-number t) put-number.Pre
 
 abbrev put-number-below : ℕ → In 1 put-number-kinds.ps
-put-number-below t =
-    and 1 put-number-kinds.ps (falls 1 put-number-kinds.ps _<_ μ-put-number t) put-number.Pre
+put-number-below t = and 1 put-number-kinds.ps (falls 1 put-number-kinds.ps _<_ μ-put-number t) put-number.Pre
 
 -- one digit
 put-number-returns : (t : ℕ) → put-number-lts.Need-returns (

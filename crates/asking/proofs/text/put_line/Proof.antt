@@ -28,14 +28,10 @@ rest x =
     omega (arith, s .pre, line-length w xs, length-append w (item (length xs)), x .put-named .ensures .end, x .put-named .kept .0)
 
 put-named-requires : tie.Need-put-named-requires
-put-named-requires c κs =
-    let s = c .before .before .before .before in
-    omega (arith, s .pre, line-length (now (s .args .word)) (now (s .args .list)))
+put-named-requires c κs = let s = c .before .before .before .before in omega (arith, s .pre, line-length (now (s .args .word)) (now (s .args .list)))
 
 put-list-requires : tie.Need-put-list-requires
-put-list-requires c κs =
-    let x = c .before .before .before in
-    omega (arith, rest (first x), x .put-byte .ensures .end, x .put-byte .kept .0)
+put-list-requires c κs = let x = c .before .before .before in omega (arith, rest (first x), x .put-byte .ensures .end, x .put-byte .kept .0)
 
 put-byte-requires-2 : tie.Need-put-byte-requires-2
 put-byte-requires-2 c κs =

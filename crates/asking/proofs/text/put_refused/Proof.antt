@@ -28,14 +28,10 @@ rest x =
     omega (arith, s .pre, refused-length k w, length-append refusedWord (item k), x .put-named .ensures .end, x .put-named .kept .0)
 
 put-named-requires : tie.Need-put-named-requires
-put-named-requires c κs =
-    let s = c .before .before .before .before in
-    omega (arith, s .pre, refused-length (s .args .number) (now (s .args .word)))
+put-named-requires c κs = let s = c .before .before .before .before in omega (arith, s .pre, refused-length (s .args .number) (now (s .args .word)))
 
 put-word-requires : tie.Need-put-word-requires
-put-word-requires c κs =
-    let x = c .before .before .before in
-    omega (arith, rest (first x), x .put-byte .ensures .end, x .put-byte .kept .0)
+put-word-requires c κs = let x = c .before .before .before in omega (arith, rest (first x), x .put-byte .ensures .end, x .put-byte .kept .0)
 
 put-byte-requires-2 : tie.Need-put-byte-requires-2
 put-byte-requires-2 c κs =
