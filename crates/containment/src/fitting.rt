@@ -8,6 +8,8 @@ ghost use Rattle.plan.specs.Steps.{maskFor, FitsBy};
 ghost use Rattle.plan.specs.Plans.{GroupPlan};
 ghost use Rattle.plan.specs.Rising.{entries, Turned};
 ghost use Rattle.containment.specs.inner.Feasible.{RightIn, FitTable};
+use plan::BYTE;
+use plan::STEPS;
 use plan::Sets;
 use tables::Pattern;
 
@@ -23,10 +25,10 @@ fn along(axis: u8, f: u64) -> u64
 
 // The steps of b that fit at a step of label l, the output step, as the bit `output`, only where `last` says so.
 fn fits(
-    low: &[u64; 256],
-    high: &[u64; 256],
-    forks: &[u64; 64],
-    later: &[u64; 64],
+    low: &[u64; BYTE],
+    high: &[u64; BYTE],
+    forks: &[u64; STEPS],
+    later: &[u64; STEPS],
     n: usize,
     sets: Sets,
     output: u64,
@@ -47,7 +49,7 @@ fn fits(
 }
 
 // Step i gets what fits at it, f; its parent p gathers f below it, and g, what of f fits along a child edge.
-fn hand_up(fit: &mut [u64; 64], under: &mut [u64; 64], i: usize, p: usize, f: u64, g: u64)
+fn hand_up(fit: &mut [u64; STEPS], under: &mut [u64; STEPS], i: usize, p: usize, f: u64, g: u64)
     requires { ⌜ (p < i) × (i < 64) × (length (now fit) ≡ 64) × (length (now under) ≡ 64) ⌝ }
     ensures sizes { λ _. ⌜ (length (now (fit .exit)) ≡ 64) × (length (now (under .exit)) ≡ 64) ⌝ }
     ensures turn { λ _. ⌜ Turned i p f g (getD (now (under .entry)) i 0) (entries (now (fit .entry))) (entries (now (under .entry))) (entries (now (fit .exit)))
@@ -61,14 +63,14 @@ fn hand_up(fit: &mut [u64; 64], under: &mut [u64; 64], i: usize, p: usize, f: u6
 // Which steps of b fit at each step of a, in a table of zeros: from the last step of a to the first.
 fn fit_turns(
     a: Pattern,
-    low: &[u64; 256],
-    high: &[u64; 256],
-    forks: &[u64; 64],
-    later: &[u64; 64],
+    low: &[u64; BYTE],
+    high: &[u64; BYTE],
+    forks: &[u64; STEPS],
+    later: &[u64; STEPS],
     n: usize,
     sets: Sets,
     output: u64,
-    fit: &mut [u64; 64],
+    fit: &mut [u64; STEPS],
 )
     requires { ⌜ ValidPattern a ⌝ }
     requires { ⌜ n ≤ 64 ⌝ }
@@ -76,7 +78,7 @@ fn fit_turns(
     ensures { λ _. ⌜ ((B : Shape) → GroupPlan B (now (low .entry)) (now (high .entry)) (now (forks .entry)) (now (later .entry)) n sets → output ≡ 2 ^ B .output
         → FitTable B (shapeOf a) (now (fit .exit))) ⌝ }
 {
-    let mut under = [0u64; 64];
+    let mut under = [0u64; STEPS];
     let end = a.output.0 as usize;
     let mut i = a.count;
     while 1 < i {
@@ -114,20 +116,20 @@ fn fit_turns(
 }
 
 // Which steps of b fit at each step of a, in a table of zeros: what is looked up of b is filled first.
-pub(crate) fn fit_steps(a: Pattern, b: Pattern, fit: &mut [u64; 64])
+pub(crate) fn fit_steps(a: Pattern, b: Pattern, fit: &mut [u64; STEPS])
     requires { ⌜ ValidPattern a ⌝ }
     requires { ⌜ ValidPattern b ⌝ }
     requires { ⌜ now fit ≡ replicate 64 0 ⌝ }
     ensures { λ _. ⌜ FitTable (shapeOf b) (shapeOf a) (now (fit .exit)) ⌝ }
 {
-    let mut low = [0u64; 256];
-    let mut high = [0u64; 256];
+    let mut low = [0u64; BYTE];
+    let mut high = [0u64; BYTE];
     plan::label_steps(b, &mut low, &mut high);
-    let mut children = [0u64; 64];
-    let mut parents = [0u64; 64];
+    let mut children = [0u64; STEPS];
+    let mut parents = [0u64; STEPS];
     let sets = plan::gather(b, &mut children, &mut parents);
-    let mut forks = [0u64; 64];
-    let mut later = [0u64; 64];
+    let mut forks = [0u64; STEPS];
+    let mut later = [0u64; STEPS];
     let n = plan::group(&children, sets.next, b.count, &mut forks, &mut later);
     let output = plan::one_bit(b.output.0 as usize);
     fit_turns(a, &low, &high, &forks, &later, n, sets, output, fit);
