@@ -74,9 +74,8 @@ pub(crate) fn starts_right(starts: &[u16], n: usize) -> bool
 }
 
 // Marks the start nodes in a list whose second entries are zero.
-pub(crate) fn mark_starts(starts: &[u16], n: usize, work: &mut [u64])
-    requires { ⌜ (n ≤ 2048) × (2 * n ≤ length (now work)) ⌝ }
-    requires { ⌜ ((k : ℕ) → k < length (now starts) → getD (now starts) k 0 < n) ⌝ }
+pub(crate) fn mark_starts(starts: &[u16], work: &mut [u64])
+    requires { ⌜ ((k : ℕ) → k < length (now starts) → 2 * getD (now starts) k 0 + 1 < length (now work)) ⌝ }
     ensures marks { λ _. ⌜ ((i : ℕ) → In (now (starts .entry)) i → Marked (now (work .exit)) i) ⌝ }
     ensures others { λ _. ⌜ ((q : ℕ) → ((i : ℕ) → In (now (starts .entry)) i → q ≡ 2 * i + 1 → ⊥) → getD (now (work .exit)) q 0 ≡ getD (now (work .entry)) q
         0) ⌝ }
