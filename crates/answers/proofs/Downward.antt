@@ -5,24 +5,24 @@ use mathlib.Core.Logic.{_⊎_, inl, inr, ⊎-elim}
 use mathlib.Core.List.{List}
 use native.Mathlib.Omega.{arith}
 use native.Mathlib.Nat.{eq-zero-or-pos}
+use lib.Bits.{bitOr, bitAnd}
 use lib.ListN.{length, getD}
 use Rattle.tables.specs.Bits.{Marks}
-use Rattle.tables.specs.Tree.{Child, child, From}
-use Rattle.tables.specs.Document.{Document, nodeCount, nodesOf, ValidDocument}
+use Rattle.tables.specs.Tree.{Child, child}
+use Rattle.tables.specs.Document.{Document, nodeCount, nodesOf}
 use Rattle.tables.specs.Pattern.{Shape, ValidShape}
 use Rattle.tables.proofs.Choice.{below-or-at}
-use Rattle.tables.proofs.Marks.{marks-to}
-use Rattle.tables.proofs.Rules.{document-ordered, shape-ordered}
-use Rattle.tables.proofs.Trees.{below-lt, below-parent, from-child, from-le}
+use Rattle.tables.proofs.Marks.{marks-to, marks-or, marks-and}
+use Rattle.tables.proofs.Rules.{shape-ordered}
+use Rattle.tables.proofs.Trees.{below-lt, below-up, from-child}
 use Rattle.placing.specs.Placement.{Goes}
 use Rattle.placing.proofs.Fit.{Whole, whole-able, whole-root, whole-up, whole-down}
 use Rattle.placing.proofs.Sending.{task, reaches-whole}
 use Rattle.answers.specs.Working.{FitsAt, PlacedAt}
-use Rattle.plan.specs.Leading.{Led}
-use Rattle.answers.specs.inner.Passes.{Allowed, Downward}
+use Rattle.answers.specs.inner.Passes.{Allowed, PassedOn, Downward}
 use Rattle.answers.proofs.Upward.{can}
 
-module _ (A : Shape) (d : Document) (First : ℕ → Type 0) (va : ValidShape A) (vd : ValidDocument d) where
+module _ (A : Shape) (d : Document) (First : ℕ → Type 0) (va : ValidShape A) where
   placed-whole : (i s : ℕ) → PlacedAt A d First i s → Whole (task A (nodesOf d)) First s i
   placed-whole i s h = reaches-whole A (nodesOf d) First s i .1 (h .1)
 
@@ -55,20 +55,24 @@ module _ (A : Shape) (d : Document) (First : ℕ → Type 0) (va : ValidShape A)
   hangs : (t : ℕ) → 0 < t → t < A .tree .size → Child (A .tree) (A .tree .parent t) t
   hangs t p l = record { late = p; here = l; up = refl }
 
-  module _ (p i : ℕ) (c : Child (nodesOf d .tree) p i) where
-    -- what a node with a parent takes: steps that fit, and are allowed by the parent or start there
+  -- what was allowed to a node is what its parent allows; node 0 has none
+  abbrev pub Over : ℕ → ℕ → Type 0
+  Over i s = (p : ℕ) × Child (nodesOf d .tree) p i × Allowed A d First p s
+
+  module _ (i : ℕ) where
+    -- what a node takes: steps that fit, and were allowed to it or start there
     abbrev Taken : ℕ → Type 0
-    Taken s = FitsAt A d i s × (Allowed A d First p s ⊎ ((s ≡ 0) × First i))
+    Taken s = FitsAt A d i s × (Over i s ⊎ ((s ≡ 0) × First i))
 
     taken-placed : (t : ℕ) → Taken t → PlacedAt A d First i t
     taken-placed t h = ⊎-elim
-        (λ w. ⊎-elim (λ x. placed-down i p (w .0) t (w .1) (x .1) (rw (x .0) (c, refl)) (h .0))
-        (λ x. placed-down i (x .1 .0) (w .0) t (w .1) (x .1 .2) (rw (x .0) (from-child (x .1 .1) c)) (h .0)) (w .2))
+        (λ o. let w = o .2 in ⊎-elim (λ x. placed-down i (o .0) (w .0) t (w .1) (x .1) (rw (x .0) (o .1, refl)) (h .0))
+        (λ x. placed-down i (x .1 .0) (w .0) t (w .1) (x .1 .2) (rw (x .0) (from-child (x .1 .1) (o .1))) (h .0)) (w .2))
         (λ w. subst (PlacedAt A d First i) (sym (w .0)) (first-placed i (subst (FitsAt A d i) (w .0) (h .0)) (w .1))) (h .1)
 
-    above : (t s j a : ℕ) → A .axis t ≡ a → t < A .tree .size → Child (A .tree) s t → Goes (nodesOf d) a j i → PlacedAt A d First j s → Allowed A d First p t
-    above t s j zero e l k g h = (s, k, inl (e, subst (λ (x : ℕ). PlacedAt A d First x s) (sym (g .0 .up) ∙ c .up) h))
-    above t s j (suc a) e l k g h = (s, k, inr (axis-one t a l e, (j, below-parent g c, h)))
+    above : (t s j a : ℕ) → A .axis t ≡ a → t < A .tree .size → Child (A .tree) s t → Goes (nodesOf d) a j i → PlacedAt A d First j s → Over i t
+    above t s j zero e l k g h = (j, g .0, (s, k, inl (e, h)))
+    above t s j (suc a) e l k g h = let u = below-up g in (nodesOf d .tree .parent i, u .0, (s, k, inr (axis-one t a l e, (j, u .1, h))))
 
     placed-taken : (t : ℕ) → PlacedAt A d First i t → Taken t
     placed-taken t h = (
@@ -80,15 +84,9 @@ module _ (A : Shape) (d : Document) (First : ℕ → Type 0) (va : ValidShape A)
           (eq-zero-or-pos t),
     )
 
-    pub node-placed : (x : ℕ) → Marks x Taken → Marks x (PlacedAt A d First i)
-    node-placed x m = marks-to x Taken (PlacedAt A d First i) taken-placed placed-taken m
-
     -- what the node's children may take: child steps of those that stand at it, and what was allowed from further above
-    module _ (whole : ℕ) (mw : Marks whole (PlacedAt A d First i)) where
-      abbrev Passed : ℕ → Type 0
-      Passed t = Led (Child (A .tree)) whole t ⊎ (Allowed A d First p t × (A .axis t ≡ 1))
-
-      passed-allowed : (t : ℕ) → Passed t → Allowed A d First i t
+    module _ (whole over : ℕ) (mw : Marks whole (PlacedAt A d First i)) (mo : Marks over (Over i)) where
+      passed-allowed : (t : ℕ) → PassedOn A whole over t → Allowed A d First i t
       passed-allowed t h = ⊎-elim
           (λ w. (
             w .0,
@@ -96,58 +94,31 @@ module _ (A : Shape) (d : Document) (First : ℕ → Type 0) (va : ValidShape A)
             ⊎-elim (λ e. inl (e, mw .only (w .0) (w .1))) (λ e. inr (e, (i, inl refl, mw .only (w .0) (w .1))))
                 (va .steps t (w .2 .here) .axis),
           ))
-          (λ w. (
-            w .0 .0,
-            w .0 .1,
-            ⊎-elim (λ x. absurd (omega (arith, x .0, w .1))) (λ x. inr (x .0, (x .1 .0, inr (from-child (x .1 .1) c), x .1 .2)))
-                (w .0 .2),
+          (λ w. let o = mo .only t (w .0) in (
+            o .2 .0,
+            o .2 .1,
+            ⊎-elim (λ x. absurd (omega (arith, x .0, w .1 .2))) (λ x. inr (x .0, (x .1 .0, inr (from-child (x .1 .1) (o .1)), x .1 .2)))
+                (o .2 .2),
           )) h
 
-      allowed-passed : (t : ℕ) → Allowed A d First i t → Passed t
+      allowed-passed : (t : ℕ) → Allowed A d First i t → PassedOn A whole over t
       allowed-passed t h = ⊎-elim
           (λ x. inl (h .0, mw .put (h .0) (x .1), h .1))
           (λ x. ⊎-elim
           (λ e. inl (h .0, mw .put (h .0) (subst (λ (y : ℕ). PlacedAt A d First y (h .0)) e (x .1 .2)), h .1))
-          (λ b. inr ((h .0, h .1, inr (x .0, (x .1 .0, below-parent b c, x .1 .2))), x .0)) (x .1 .1))
+          (λ b. let u = below-up b in
+          inr (mo .put t (nodesOf d .tree .parent i, u .0, (h .0, h .1, inr (x .0, (x .1 .0, u .1, x .1 .2)))), (h .1 .late, h .1 .here, x .0))) (x .1 .1))
           (h .2)
 
-      pub node-allowed : (x : ℕ) → Marks x Passed → Marks x (Allowed A d First i)
-      node-allowed x m = marks-to x Passed (Allowed A d First i) passed-allowed allowed-passed m
+      pub node-allowed : (x : ℕ) → Marks x (PassedOn A whole over) → Marks x (Allowed A d First i)
+      node-allowed x m = marks-to x (PassedOn A whole over) (Allowed A d First i) passed-allowed allowed-passed m
 
-  -- node 0 has nothing above it
-  no-above : (a j : ℕ) → Goes (nodesOf d) a j 0 → ⊥
-  no-above zero j g = omega (arith, g .0 .late)
-  no-above (suc a) j g = omega (arith, below-lt (document-ordered vd) g)
-
-  pub root-placed : (x : ℕ) → Marks x (λ s. FitsAt A d 0 s × ((s ≡ 0) × First 0)) → Marks x (PlacedAt A d First 0)
-  root-placed x m = marks-to x (λ s. FitsAt A d 0 s × ((s ≡ 0) × First 0)) (PlacedAt A d First 0)
-      (λ t h. subst (PlacedAt A d First 0) (sym (h .1 .0)) (first-placed 0 (subst (FitsAt A d 0) (h .1 .0) (h .0)) (h .1 .1)))
-      (λ t h. (
-        placed-fits 0 t h,
-        ⊎-elim
-            (λ z. (z, placed-first 0 (subst (PlacedAt A d First 0) z h)))
-            (λ q. absurd (let u = placed-up 0 (A .tree .parent t) t (hangs t q (h .0)) h in no-above (A .axis t) (u .0) (u .2))) (eq-zero-or-pos t),
-      ))
-      m
-
-  pub root-allowed : (whole : ℕ) → Marks whole (PlacedAt A d First 0) → (x : ℕ) → Marks x (Led (Child (A .tree)) whole) → Marks x (Allowed A d First 0)
-  root-allowed whole mw x m = marks-to x (Led (Child (A .tree)) whole) (Allowed A d First 0)
-      (λ t w. (
-        w .0,
-        w .2,
-        ⊎-elim (λ e. inl (e, mw .only (w .0) (w .1))) (λ e. inr (e, (0, inl refl, mw .only (w .0) (w .1))))
-            (va .steps t (w .2 .here) .axis),
-      ))
-      (λ t h. (
-        h .0,
-        mw .put (h .0) (⊎-elim (λ x. x .1) (λ x. subst (λ (y : ℕ). PlacedAt A d First y (h .0)) (top (x .1 .0) (x .1 .1)) (x .1 .2)) (h .2)),
-        h
-            .1,
-      ))
-      m
-    where
-      top : (a : ℕ) → From (nodesOf d .tree) a 0 → a ≡ 0
-      top a w = omega (arith, from-le (document-ordered vd) a 0 w)
+    -- the steps that fit, among those that were allowed to the node or start there, are those that stand at it
+    pub node-placed : (fit over start : ℕ) → Marks fit (FitsAt A d i) → Marks over (Over i) → Marks start (λ s. (s ≡ 0) × First i)
+        → Marks (bitAnd fit (bitOr over start)) (PlacedAt A d First i)
+    node-placed fit over start mf mo ms = marks-to (bitAnd fit (bitOr over start)) Taken (PlacedAt A d First i) taken-placed placed-taken
+        (marks-and fit (bitOr over start) (FitsAt A d i) (λ s. Over i s ⊎ ((s ≡ 0) × First i)) mf
+        (marks-or over start (Over i) (λ s. (s ≡ 0) × First i) mo ms))
 
   -- one turn: node i gets its second entry, and what its children may take
   pub down-turn : (i whole x : ℕ) (before work after allowed allowed′ : List ℕ) → i < nodeCount d → Downward A d First i before work allowed

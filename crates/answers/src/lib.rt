@@ -46,7 +46,7 @@ fn find_started(
         (now (list .entry)) (now (work .entry)) r (now (list .exit)) (now (work .exit)) ⌝ }
 {
     passes::fit_nodes(p, parents, labels, 0, work);
-    passes::mark_starts(starts, parents.len(), work);
+    passes::mark_starts(starts, work);
     passes::place_nodes(p, parents, work, list)
 }
 

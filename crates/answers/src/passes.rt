@@ -14,8 +14,14 @@ ghost use Rattle.placing.specs.Answer.{In, StartList};
 ghost use Rattle.plan.specs.Plans.{TablePlan, DownPlan};
 ghost use Rattle.tables.specs.Document.{Document, nodeCount, ValidDocument, documentOf};
 ghost use Rattle.tables.specs.Pattern.{Shape, shapeOf, ValidPattern};
+use plan::BYTE;
+use plan::STEPS;
 use plan::Sets;
+use plan::TABLE;
 use tables::Pattern;
+
+// The nodes of a document at most.
+const NODES: usize = 2048;
 
 // Zeros in the first m entries.
 fn clear(work: &mut [u64], m: usize)
@@ -39,7 +45,7 @@ fn hand_up(work: &mut [u64], i: usize, p: usize, fit: u64, below: u64, seed: u64
 }
 
 // What the parent of node i allows; node 0 has no parent.
-fn above(allowed: &[u64; 2048], parents: &[u16], i: usize) -> u64
+fn above(allowed: &[u64; NODES], parents: &[u16], i: usize) -> u64
     requires { ⌜ i < length (now parents) ⌝ }
     requires { ⌜ (0 < i → getD (now parents) i 0 < 2048) ⌝ }
     ensures none { λ r. ⌜ (i ≡ 0 → r ≡ 0) ⌝ }
@@ -68,9 +74,8 @@ pub(crate) fn starts_right(starts: &[u16], n: usize) -> bool
 }
 
 // Marks the start nodes in a list whose second entries are zero.
-pub(crate) fn mark_starts(starts: &[u16], n: usize, work: &mut [u64])
-    requires { ⌜ (n ≤ 2048) × (2 * n ≤ length (now work)) ⌝ }
-    requires { ⌜ ((k : ℕ) → k < length (now starts) → getD (now starts) k 0 < n) ⌝ }
+pub(crate) fn mark_starts(starts: &[u16], work: &mut [u64])
+    requires { ⌜ ((k : ℕ) → k < length (now starts) → 2 * getD (now starts) k 0 + 1 < length (now work)) ⌝ }
     ensures marks { λ _. ⌜ ((i : ℕ) → In (now (starts .entry)) i → Marked (now (work .exit)) i) ⌝ }
     ensures others { λ _. ⌜ ((q : ℕ) → ((i : ℕ) → In (now (starts .entry)) i → q ≡ 2 * i + 1 → ⊥) → getD (now (work .exit)) q 0 ≡ getD (now (work .entry)) q
         0) ⌝ }
@@ -84,9 +89,9 @@ pub(crate) fn mark_starts(starts: &[u16], n: usize, work: &mut [u64])
 
 // All turns of the first pass, over a list whose entries for the nodes are zero.
 fn fit_turns(
-    low: &[u64; 256],
-    high: &[u64; 256],
-    table: &[u64; 2048],
+    low: &[u64; BYTE],
+    high: &[u64; BYTE],
+    table: &[u64; TABLE],
     sets: Sets,
     parents: &[u16],
     labels: &[u16],
@@ -117,20 +122,20 @@ pub(crate) fn fit_nodes(p: Pattern, parents: &[u16], labels: &[u16], seed: u64, 
     requires { ⌜ 2 * length (now parents) ≤ length (now work) ⌝ }
     ensures { λ _. ⌜ Fitted (shapeOf p) (documentOf (now (parents .entry)) (now (labels .entry))) seed (now (work .entry)) (now (work .exit)) ⌝ }
 {
-    let mut low = [0u64; 256];
-    let mut high = [0u64; 256];
+    let mut low = [0u64; BYTE];
+    let mut high = [0u64; BYTE];
     plan::label_steps(p, &mut low, &mut high);
-    let mut down = [0u64; 64];
-    let mut up = [0u64; 64];
+    let mut down = [0u64; STEPS];
+    let mut up = [0u64; STEPS];
     let sets = plan::gather(p, &mut down, &mut up);
-    let mut table = [0u64; 2048];
+    let mut table = [0u64; TABLE];
     plan::spread(&up, p.count, &mut table);
     clear(work, 2 * parents.len());
     fit_turns(&low, &high, &table, sets, parents, labels, seed, work);
 }
 
 // What the children of a node may take, where `whole` stands at the node and `over` was allowed to it.
-fn pass_on(table: &[u64; 2048], sets: Sets, whole: u64, over: u64) -> u64
+fn pass_on(table: &[u64; TABLE], sets: Sets, whole: u64, over: u64) -> u64
     ensures { λ r. ⌜ ((A : Shape) → DownPlan A (now (table .entry)) sets → ((s : ℕ) → bit whole s ≡ 1 → s < A .tree .size) → Marks r
         (PassedOn A whole over)) ⌝ }
 {
@@ -151,12 +156,12 @@ fn note(list: &mut [u16], c: usize, i: usize, whole: u64, output: usize) -> usiz
 
 // The turn of node i in the second pass: the steps that stand there in a whole placement.
 fn place_turn(
-    table: &[u64; 2048],
+    table: &[u64; TABLE],
     sets: Sets,
     parents: &[u16],
     i: usize,
     work: &mut [u64],
-    allowed: &mut [u64; 2048],
+    allowed: &mut [u64; NODES],
 ) -> u64
     requires { ⌜ (i < length (now parents)) × (i < 2048) × (2 * i + 1 < length (now work)) × (length (now allowed) ≡ 2048) ⌝ }
     requires { ⌜ (0 < i → getD (now parents) i 0 < i) ⌝ }
@@ -175,7 +180,7 @@ fn place_turn(
 
 // All turns of the second pass, with the table of child steps of the pattern whose output step is `output`.
 fn place_turns(
-    table: &[u64; 2048],
+    table: &[u64; TABLE],
     sets: Sets,
     output: usize,
     parents: &[u16],
@@ -189,7 +194,7 @@ fn place_turns(
         (documentOf (now (parents .entry)) labels) (Marked (now (work .entry))) (now (list .entry)) (now (work .entry)) r
         (now (list .exit)) (now (work .exit))) ⌝ }
 {
-    let mut allowed = [0u64; 2048];
+    let mut allowed = [0u64; NODES];
     let n = parents.len();
     let mut c = 0;
     for i in 0..n {
@@ -209,10 +214,10 @@ pub(crate) fn place_nodes(p: Pattern, parents: &[u16], work: &mut [u64], list: &
         (now (work .entry)) → Found (shapeOf p) (documentOf (now (parents .entry)) labels) (Marked (now (work .entry))) (now (list .entry))
         (now (work .entry)) r (now (list .exit)) (now (work .exit))) ⌝ }
 {
-    let mut down = [0u64; 64];
-    let mut up = [0u64; 64];
+    let mut down = [0u64; STEPS];
+    let mut up = [0u64; STEPS];
     let sets = plan::gather(p, &mut down, &mut up);
-    let mut table = [0u64; 2048];
+    let mut table = [0u64; TABLE];
     plan::spread(&down, p.count, &mut table);
     place_turns(&table, sets, p.output.0 as usize, parents, work, list)
 }

@@ -11,7 +11,7 @@ use Rattle.tables.specs.declared.Refusal.the-variants.{NoLabel, Room}
 use Rattle.containment.specs.Equality.{pairChecks}
 use Rattle.containment.specs.Witness.{Fresh, witnessSize}
 use Rattle.containment.specs.Containment.{containmentChecks}
-use Rattle.containment.specs.inner.Feasible.{FreshOr0}
+use Rattle.containment.specs.inner.Results.{FreshOr0}
 
 -- a number other than 0 is the fresh label
 pub fresh-of : (A B : Shape) (l : ℕ) → l ≢ 0 → FreshOr0 A B l → Fresh A B l

@@ -12,18 +12,11 @@ use Rattle.placing.proofs.Fit.{Task, Fit, Able, Whole, whole-able}
 use Rattle.placing.proofs.Probe.{Probe, Probes, canWhole, tells-whole}
 use Rattle.placing.proofs.Least.{greedy-least, best, best-greedy, best-fit, best-first, no-later-unique}
 use Rattle.placing.proofs.Sending.{takes, tells-takes, goes, tells-goes}
+use Rattle.mappings.proofs.StepFits.{mapTask}
 use Rattle.containment.specs.Mapping.{BeginsIn, Maps, LeastMap, Contained}
 use Rattle.containment.proofs.Contained.{contained-iff}
 
--- the task of mapping B into A: B's output step may only go to A's
-abbrev pub mapTask : Shape → Shape → Task
-mapTask B A = record {
-  tree = B .tree;
-  ok = λ t s. Takes (rowsOf A) (B .label t) s × (t ≡ B .output → s ≡ A .output);
-  edge = λ t q s. Goes (rowsOf A) (B .axis t) q s;
-}
-
--- its tests
+-- the tests of mapping B into A
 abbrev pub mapProbe : Shape → Shape → Probe
 mapProbe B A = record {
   ok = λ t s. takes (rowsOf A) (B .label t) s && imp (eqb t (B .output)) (eqb s (A .output));

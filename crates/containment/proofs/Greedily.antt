@@ -18,10 +18,11 @@ use Rattle.placing.proofs.Fit.{Able, able-ok, able-next}
 use Rattle.placing.proofs.Least.{greedy-least}
 use Rattle.containment.specs.Mapping.{BeginsIn, LeastMap}
 use Rattle.containment.specs.Containment.{stepNo, mappingArray}
-use Rattle.containment.specs.inner.Feasible.{FitsIn, FitTable, Picks, ImageAt}
-use Rattle.containment.proofs.Deciding.{mapTask, maps-fit, fit-maps}
-use Rattle.containment.proofs.StepFits.{fits-able, able-fits}
-use Rattle.containment.proofs.Images.{pick-found, pick-some}
+use Rattle.mappings.specs.Fits.{FitsIn, FitTable, Picks, ImageAt}
+use Rattle.mappings.proofs.StepFits.{mapTask}
+use Rattle.containment.proofs.Deciding.{maps-fit, fit-maps}
+use Rattle.mappings.proofs.StepFits.{fits-able, able-fits}
+use Rattle.mappings.proofs.Images.{pick-found, pick-some}
 
 -- a store in a list of step numbers
 map-set : (xs : List ℕ) (k v : ℕ) → set (map stepNo xs) k (stepNo v) ≡ map stepNo (set xs k v)

@@ -9,8 +9,6 @@ pub mod FreshLabel
 pub mod Contained
 pub mod Deciding
 pub mod Unique
-pub mod StepFits
-pub mod Images
 pub mod Greedily
 pub mod Verdicts
 pub mod WitnessSteps

@@ -21,9 +21,10 @@ use Rattle.containment.specs.Equality.{pairChecks}
 use Rattle.containment.specs.inner.Verdict.{Decides}
 use Rattle.containment.specs.declared.comparing.Verdict.the-variants as verdict
 use Rattle.containment.specs.declared.comparing.VerdictAnswer.{VerdictAnswer}
-use Rattle.containment.specs.inner.Feasible.{FitsIn, FitTable, Picks, Chosen}
+use Rattle.mappings.specs.Fits.{FitsIn, FitTable, Picks}
+use Rattle.containment.specs.inner.Results.{Chosen}
 use Rattle.containment.proofs.Contained.{contained-iff}
-use Rattle.containment.proofs.Images.{pick-to, pick-none, pick-found, pick-below}
+use Rattle.mappings.proofs.Images.{pick-to, pick-none, pick-found, pick-below}
 
 module _ (A B : Shape) (va : ValidShape A) (vb : ValidShape B) where
   -- a step of A at which a step of B fits

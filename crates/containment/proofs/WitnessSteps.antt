@@ -14,7 +14,7 @@ use Rattle.tables.proofs.Columns.{put-next}
 use Rattle.tables.proofs.Rules.{shape-ordered}
 use Rattle.tables.proofs.Trees.{parent-lt}
 use Rattle.containment.specs.Witness.{descendants, ownNode, witnessSize, hook, parentsFor, labelsFor}
-use Rattle.containment.specs.inner.Feasible.{Wrote}
+use Rattle.containment.specs.inner.Results.{Wrote}
 use Rattle.containment.proofs.Nodes.{descendants-le, descendants-mono}
 use Rattle.containment.proofs.Written.{parents-length, labels-length}
 use Rattle.containment.proofs.Contained.{axes}

@@ -1,3 +1,3 @@
 -- What only private functions cite: a reader of the public contracts need not read it. Assumes nothing.
-pub mod Feasible
+pub mod Results
 pub mod Verdict

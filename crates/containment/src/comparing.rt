@@ -7,7 +7,6 @@ ghost use Rattle.containment.specs.Mapping.{Contained};
 ghost use Rattle.containment.specs.Containment.{mappingArray};
 ghost use Rattle.containment.specs.inner.Verdict.{Decides};
 use crate::choosing;
-use crate::fitting;
 use tables::Checked;
 use tables::Pattern;
 use tables::Refusal;
@@ -32,8 +31,8 @@ pub(crate) fn within(a: Pattern, b: Pattern) -> bool
     ensures { λ r. ⌜ T r ↔ Contained (shapeOf a) (shapeOf b) ⌝ }
 {
     let mut fit = [0u64; 64];
-    fitting::fit_steps(a, b, &mut fit);
-    choosing::first_image(a.count, a.axis[0], b.axis[0], &fit) != 64
+    mappings::fit_steps(a, b, &mut fit);
+    mappings::first_image(a.count, a.axis[0], b.axis[0], &fit) != 64
 }
 
 // The verdict with no mapping.
@@ -52,8 +51,8 @@ fn compare(a: Pattern, b: Pattern) -> VerdictAnswer
     ensures { λ r. ⌜ Decides a b r ⌝ }
 {
     let mut fit = [0u64; 64];
-    fitting::fit_steps(a, b, &mut fit);
-    let first = choosing::first_image(a.count, a.axis[0], b.axis[0], &fit);
+    mappings::fit_steps(a, b, &mut fit);
+    let first = mappings::first_image(a.count, a.axis[0], b.axis[0], &fit);
     if first == 64 {
         return beside(Verdict::Apart);
     }

@@ -9,11 +9,10 @@ ghost use Rattle.tables.specs.Pattern.{shapeOf};
 ghost use Rattle.containment.specs.Containment.{mappingArray, DecidesContainment};
 ghost use Rattle.containment.specs.Equality.{DecidesEquality};
 ghost use Rattle.containment.specs.Witness.{Stands};
-ghost use Rattle.containment.specs.inner.Feasible.{FreshOr0};
+ghost use Rattle.containment.specs.inner.Results.{FreshOr0};
 
 mod choosing;
 mod comparing;
-mod fitting;
 mod witness;
 
 use tables::Checked;

@@ -5,7 +5,7 @@ ghost use Prim.Native.Nat.{_+_, _≤_, _<_};
 ghost use lib.ListN.{length, getD, drop};
 ghost use Rattle.tables.specs.Pattern.{shapeOf, ValidPattern};
 ghost use Rattle.containment.specs.Witness.{descendants, ownNode, witnessSize, witnessOf};
-ghost use Rattle.containment.specs.inner.Feasible.{Wrote};
+ghost use Rattle.containment.specs.inner.Results.{Wrote};
 use tables::Pattern;
 
 // How many of the first k steps have axis descendant.

@@ -14,6 +14,13 @@ ghost use Rattle.plan.specs.Leading.{ToParent, Led, Doubled, Spread, loo
 ghost use Rattle.plan.specs.Plans.{TablePlan, GroupPlan, DownPlan};
 use tables::Pattern;
 
+// The values of a byte, the steps of a pattern at most, and the entries of a table that the bytes of a set of steps look up.
+pub const BYTE: usize = 256;
+
+pub const STEPS: usize = 64;
+
+pub const TABLE: usize = 2048;
+
 // The number with bit s alone.
 pub fn one_bit(s: usize) -> u64
     requires { ⌜ s < 64 ⌝ }
@@ -31,7 +38,7 @@ pub fn has_bit(x: u64, s: usize) -> bool
 }
 
 // The steps of p by the low byte and by the high byte of their label, in tables of zeros.
-pub fn label_steps(p: Pattern, low: &mut [u64; 256], high: &mut [u64; 256])
+pub fn label_steps(p: Pattern, low: &mut [u64; BYTE], high: &mut [u64; BYTE])
     requires { ⌜ ValidPattern p ⌝ }
     requires { ⌜ (now low ≡ replicate 256 0) × (now high ≡ replicate 256 0) ⌝ }
     ensures { λ _. ⌜ Labelled (shapeOf p) (now (low .exit)) (now (high .exit)) ⌝ }
@@ -48,7 +55,7 @@ pub fn label_steps(p: Pattern, low: &mut [u64; 256], high: &mut [u64; 256])
 }
 
 // The steps that fit a row of label l by their label: which label fits is decided here alone.
-pub fn labelled(low: &[u64; 256], high: &[u64; 256], l: u16) -> u64
+pub fn labelled(low: &[u64; BYTE], high: &[u64; BYTE], l: u16) -> u64
     ensures { λ r. ⌜ ((A : Shape) → Labelled A (now (low .entry)) (now (high .entry)) → Marks r (OfLabel A l)) ⌝ }
 {
     low[(l % 256) as usize] & high[(l / 256) as usize]
@@ -63,7 +70,7 @@ pub struct Sets {
 }
 
 // These sets of p's steps; and, in two tables of zeros, the child steps of each step and its parent.
-pub fn gather(p: Pattern, children: &mut [u64; 64], parents: &mut [u64; 64]) -> Sets
+pub fn gather(p: Pattern, children: &mut [u64; STEPS], parents: &mut [u64; STEPS]) -> Sets
     requires { ⌜ ValidPattern p ⌝ }
     requires { ⌜ (now children ≡ replicate 64 0) × (now parents ≡ replicate 64 0) ⌝ }
     ensures sets { λ r. ⌜ SetsOf (shapeOf p) r ⌝ }
@@ -110,7 +117,7 @@ fn missing(sets: Sets, c: u64, d: u64) -> u64
 }
 
 // Entries top to 2 top - 1 past `base`: those from 0 to top - 1, with m joined to each.
-fn double(table: &mut [u64; 2048], base: usize, top: usize, m: u64)
+fn double(table: &mut [u64; TABLE], base: usize, top: usize, m: u64)
     requires { ⌜ (length (now table) ≡ 2048) × (base + 2 * top ≤ 2048) ⌝ }
     ensures { λ _. ⌜ Doubled (now (table .entry)) base top m (now (table .exit)) ⌝ }
 {
@@ -120,7 +127,7 @@ fn double(table: &mut [u64; 2048], base: usize, top: usize, m: u64)
 }
 
 // The table of the relation in which step t leads to the steps of `to[t]`, for the first n steps, in a table of zeros.
-pub fn spread(to: &[u64; 64], n: usize, table: &mut [u64; 2048])
+pub fn spread(to: &[u64; STEPS], n: usize, table: &mut [u64; TABLE])
     requires { ⌜ (n ≤ 64) × (now table ≡ replicate 2048 0) ⌝ }
     ensures { λ _. ⌜ Spread (λ t s. bit (getD (now (to .entry)) t 0) s ≡ 1) n (now (table .exit)) ⌝ }
 {
@@ -130,7 +137,7 @@ pub fn spread(to: &[u64; 64], n: usize, table: &mut [u64; 2048])
 }
 
 // What the bytes of x find in the table.
-fn look_up(table: &[u64; 2048], x: u64) -> u64
+fn look_up(table: &[u64; TABLE], x: u64) -> u64
     ensures { λ r. ⌜ r ≡ lookUp (now (table .entry)) x 8 ⌝ }
 {
     let mut r: u64 = 0;
@@ -142,7 +149,7 @@ fn look_up(table: &[u64; 2048], x: u64) -> u64
 
 // The steps of `mask` that have a child step with no place, by the table of parents: where none of them is forked each can lack the next step alone, and a
 // shift finds them.
-fn lacking(table: &[u64; 2048], sets: Sets, mask: u64, c: u64, d: u64) -> u64
+fn lacking(table: &[u64; TABLE], sets: Sets, mask: u64, c: u64, d: u64) -> u64
     ensures { λ r. ⌜ ((A : Shape) → SetsOf A sets → Spread (ToParent A) (A .tree .size) (now (table .entry)) → Lacking A mask c d r) ⌝ }
 {
     let lost = missing(sets, c, d);
@@ -154,9 +161,9 @@ fn lacking(table: &[u64; 2048], sets: Sets, mask: u64, c: u64, d: u64) -> u64
 
 // The steps that fit at a row of label l, by the table of parents: c has the steps that fit at a child edge of the row, d those that fit anywhere below it.
 pub fn fits(
-    low: &[u64; 256],
-    high: &[u64; 256],
-    table: &[u64; 2048],
+    low: &[u64; BYTE],
+    high: &[u64; BYTE],
+    table: &[u64; TABLE],
     sets: Sets,
     l: u16,
     c: u64,
@@ -170,7 +177,7 @@ pub fn fits(
 }
 
 // The child steps of the steps of x, by the table of children: where none of these is forked, a shift finds them.
-pub fn led(table: &[u64; 2048], sets: Sets, x: u64) -> u64
+pub fn led(table: &[u64; TABLE], sets: Sets, x: u64) -> u64
     ensures { λ r. ⌜ ((A : Shape) → DownPlan A (now (table .entry)) sets → ((s : ℕ) → bit x s ≡ 1 → s < A .tree .size) → Marks r
         (Led (Child (A .tree)) x)) ⌝ }
 {
@@ -184,11 +191,11 @@ pub fn led(table: &[u64; 2048], sets: Sets, x: u64) -> u64
 // From the child steps of the first n steps, in two tables of zeros: the steps that have others than those of `next`, each as a bit of `forks`, and these
 // others, as bits of `later`. How many.
 pub fn group(
-    children: &[u64; 64],
+    children: &[u64; STEPS],
     next: u64,
     n: usize,
-    forks: &mut [u64; 64],
-    later: &mut [u64; 64],
+    forks: &mut [u64; STEPS],
+    later: &mut [u64; STEPS],
 ) -> usize
     requires { ⌜ n ≤ 64 ⌝ }
     requires { ⌜ (now forks ≡ replicate 64 0) × (now later ≡ replicate 64 0) ⌝ }
@@ -207,7 +214,7 @@ pub fn group(
 }
 
 // The bits of the first n entries of `forks` whose entries of `later` have a bit of m.
-fn reached(forks: &[u64; 64], later: &[u64; 64], n: usize, m: u64) -> u64
+fn reached(forks: &[u64; STEPS], later: &[u64; STEPS], n: usize, m: u64) -> u64
     requires { ⌜ n ≤ 64 ⌝ }
     ensures { λ r. ⌜ Marks r (Reached (now (forks .entry)) (now (later .entry)) m n) ⌝ }
 {
@@ -222,10 +229,10 @@ fn reached(forks: &[u64; 64], later: &[u64; 64], n: usize, m: u64) -> u64
 
 // The same as `fits` by n groups, where a table would cost more than the few rows that look it up.
 pub fn fits_grouped(
-    low: &[u64; 256],
-    high: &[u64; 256],
-    forks: &[u64; 64],
-    later: &[u64; 64],
+    low: &[u64; BYTE],
+    high: &[u64; BYTE],
+    forks: &[u64; STEPS],
+    later: &[u64; STEPS],
     n: usize,
     sets: Sets,
     l: u16,

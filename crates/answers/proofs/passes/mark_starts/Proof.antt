@@ -12,10 +12,10 @@ use Rattle.answers.proofs.passes.mark_starts.Statement.{statement}
 use Rattle.answers.proofs.passes.mark_starts.Tie as tie
 
 abbrev Inv-loop : tie.InvT-loop
-Inv-loop starts n work₀ m k₀ work k = (k ≤ m) × MarkedTo starts work₀ k work
+Inv-loop starts work₀ m k₀ work k = (k ≤ m) × MarkedTo starts work₀ k work
 
 abbrev μ-loop : tie.MeasureT-loop
-μ-loop starts n work₀ m k₀ work k = m - k
+μ-loop starts work₀ m k₀ work k = m - k
 
 -- what marking a node asks of a 16-bit number
 slots : (x : ℕ) → Fits w16 x → Fits w64 x × Fits w64 (2 * x) × Fits w64 (2 * x + 1) × Fits w64 ((2 * x + 1) * 8)
@@ -24,7 +24,7 @@ slots x f = (omega arith, omega arith, omega arith, omega arith)
 -- the second entry of every start node is in the list
 room : (l : tie.At-loop Inv-loop μ-loop) (i : ℕ) → i < length (now (l .before .args .starts)) → 2 * getD (now (l .before .args .starts)) i 0 + 1 < length
     (l .loop .work)
-room l i h = omega (arith, l .before .pre .1 i h, l .before .pre .0, l .loop .inv .1 .same-length)
+room l i h = omega (arith, l .before .pre i h, l .loop .inv .1 .same-length)
 
 loop-holds : tie.Need-loop-holds Inv-loop μ-loop
 loop-holds c = (omega arith, marked-start _ _)

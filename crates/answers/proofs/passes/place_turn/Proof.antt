@@ -20,7 +20,7 @@ returns c =
     let a = c .before .before .before .above .ensures in (
       (simp length-set, simp length-set),
       λ A labels before v k u. turned A (k .sets-of .valid) (documentOf (now (s .args .parents)) labels)
-          (Marked before) v (s .args .i) _ _ before _ _ (s .pre .0 .0) (s .pre .1) (s .pre .0 .2) (omega (arith, s .pre .0 .1, s .pre .0 .3)) (a .0) (a .1)
+          (Marked before) (s .args .i) _ _ before _ _ (s .pre .0 .0) (s .pre .1) (s .pre .0 .2) (omega (arith, s .pre .0 .1, s .pre .0 .3)) (a .0) (a .1)
           (c .pass-on .ensures A k) u,
     )
 

@@ -12,9 +12,9 @@ use Rattle.tables.proofs.Gathered.{parent-few}
 use Rattle.tables.proofs.Rules.{shape-ordered}
 use Rattle.tables.proofs.Trees.{parent-lt}
 use Rattle.placing.proofs.Fit.{able-ok}
-use Rattle.containment.specs.inner.Feasible.{Picks, StepLists, ImageAt}
+use Rattle.mappings.specs.Fits.{Picks, StepLists, ImageAt}
 use Rattle.containment.specs.Containment.{stepNo, mappingArray}
-use Rattle.containment.proofs.Deciding.{mapTask}
+use Rattle.mappings.proofs.StepFits.{mapTask}
 use Rattle.containment.proofs.Greedily.{mapping-one, mapping-more, mapping-at, Chose, chose-start, chose-more, image-there, image-found, chose-end}
 use Rattle.containment.proofs.choosing.choose.Statement.{statement}
 use Rattle.containment.proofs.choosing.choose.Tie as tie

@@ -1,8 +1,8 @@
 -- `containment::comparing::compare` meets its contract: the first step picked tells whether there is a mapping. Assumes nothing.
 use Rattle.tables.specs.Pattern.{shapeOf}
 use Rattle.containment.specs.Mapping.{BeginsIn}
-use Rattle.containment.specs.inner.Feasible.{FitsIn, Picks}
-use Rattle.containment.proofs.Images.{pick-below}
+use Rattle.mappings.specs.Fits.{FitsIn, Picks}
+use Rattle.mappings.proofs.Images.{pick-below}
 use Rattle.containment.proofs.Verdicts.{first-picked, not-contained, within-chosen, told-apart}
 use borrow.Author.Needs.{needs}
 use Rattle.containment.proofs.comparing.compare.Statement.{statement}

@@ -1,9 +1,9 @@
--- `containment::choosing::takes` meets its contract. Assumes nothing.
+-- `mappings::takes` meets its contract. Assumes nothing.
 use native.Mathlib.Omega.{arith}
 use borrow.Author.Needs.{needs}
 use Rattle.tables.proofs.Tests.{passed, failed, tells-eq}
-use Rattle.containment.proofs.choosing.takes.Statement.{statement}
-use Rattle.containment.proofs.choosing.takes.Tie as tie
+use Rattle.mappings.proofs.takes.Statement.{statement}
+use Rattle.mappings.proofs.takes.Tie as tie
 
 returns : tie.Need-returns
 returns c = let h = c .before .has-bit in (λ z. absurd z, λ w. failed (h .result) (c .if1 .taken) (h .ensures .1 (w .1)))

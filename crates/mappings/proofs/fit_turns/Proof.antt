@@ -1,4 +1,4 @@
--- `containment::fitting::fit_turns` meets its contract: the invariant is the state of the upward pass, for every pattern that the plan is of.
+-- `mappings::fit_turns` meets its contract: the invariant is the state of the upward pass, for every pattern that the plan is of.
 -- Assumes nothing.
 use Prim.Native.Nat.{ℕ, suc, _-_, _<_, _≤_, _^_}
 use mathlib.Core.Path.{_≡_, refl, ap}
@@ -14,10 +14,10 @@ use Rattle.tables.proofs.Tests.{tells-eq}
 use Rattle.plan.specs.Plans.{GroupPlan}
 use Rattle.plan.specs.Rising.{entries}
 use Rattle.plan.proofs.Rising.{Risen, risen-start, risen-turn, along}
-use Rattle.containment.specs.inner.Feasible.{FitsIn}
-use Rattle.containment.proofs.StepFits.{step-fits, fit-table}
-use Rattle.containment.proofs.fitting.fit_turns.Statement.{statement}
-use Rattle.containment.proofs.fitting.fit_turns.Tie as tie
+use Rattle.mappings.specs.Fits.{FitsIn}
+use Rattle.mappings.proofs.StepFits.{step-fits, fit-table}
+use Rattle.mappings.proofs.fit_turns.Statement.{statement}
+use Rattle.mappings.proofs.fit_turns.Tie as tie
 
 abbrev Inv-loop : tie.InvT-loop
 Inv-loop low high forks later n sets output fit₀ a under₀ end i₀ fit under i =

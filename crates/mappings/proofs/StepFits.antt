@@ -15,13 +15,20 @@ use Rattle.tables.specs.Tree.{From}
 use Rattle.tables.specs.Pattern.{Shape, rowsOf, ValidShape}
 use Rattle.tables.proofs.Marks.{marks-to, marks-one, marks-without}
 use Rattle.tables.proofs.Rules.{shape-ordered}
-use Rattle.placing.specs.Placement.{LabelFits}
-use Rattle.placing.proofs.Fit.{Able, fit-able, able-fit}
+use Rattle.placing.specs.Placement.{LabelFits, Takes, Goes}
+use Rattle.placing.proofs.Fit.{Task, Able, fit-able, able-fit}
 use Rattle.plan.specs.Steps.{without, FitsBy}
 use Rattle.plan.specs.Rising.{entries, Turned}
 use Rattle.plan.proofs.Rising.{Risen, risen-fits}
-use Rattle.containment.specs.inner.Feasible.{RightIn, FitsIn, FitTable}
-use Rattle.containment.proofs.Deciding.{mapTask}
+use Rattle.mappings.specs.Fits.{RightIn, FitsIn, FitTable}
+
+-- the task of mapping B into A: B's output step may only go to A's
+abbrev pub mapTask : Shape → Shape → Task
+mapTask B A = record {
+  tree = B .tree;
+  ok = λ t s. Takes (rowsOf A) (B .label t) s × (t ≡ B .output → s ≡ A .output);
+  edge = λ t q s. Goes (rowsOf A) (B .axis t) q s;
+}
 
 module _ (B A : Shape) (vb : ValidShape B) where
   -- a step that fits can be sent child by child, and the other way round

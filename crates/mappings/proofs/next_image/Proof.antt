@@ -1,12 +1,12 @@
--- `containment::choosing::next_image` meets its contract: none of the steps from q to s is right. Assumes nothing.
+-- `mappings::next_image` meets its contract: none of the steps from q to s is right. Assumes nothing.
 use Prim.Native.Nat.{_-_, _≤_, _<_}
 use mathlib.Core.Path.{sym, _∙_}
 use native.Mathlib.Omega.{arith}
 use Rattle.tables.specs.Pattern.{Shape}
-use Rattle.containment.specs.inner.Feasible.{StepLists}
-use Rattle.containment.proofs.Images.{Sought, sought-start, sought-here, sought-more, sought-end}
-use Rattle.containment.proofs.choosing.next_image.Statement.{statement}
-use Rattle.containment.proofs.choosing.next_image.Tie as tie
+use Rattle.mappings.specs.Fits.{StepLists}
+use Rattle.mappings.proofs.Images.{Sought, sought-start, sought-here, sought-more, sought-end}
+use Rattle.mappings.proofs.next_image.Statement.{statement}
+use Rattle.mappings.proofs.next_image.Tie as tie
 
 abbrev Inv-loop : tie.InvT-loop
 Inv-loop parents axes n fit t axis q s₀ s = (q < s) × (s ≤ n) × ((A : Shape) → StepLists A parents axes n → Sought A fit t axis q s)

@@ -1,14 +1,14 @@
--- `containment::choosing::first_image` meets its contract: none of the steps before s is right. Assumes nothing.
+-- `mappings::first_image` meets its contract: none of the steps before s is right. Assumes nothing.
 use Prim.Native.Nat.{ℕ, _-_, _≤_, _<_}
 use mathlib.Core.Path.{_≡_, refl}
 use native.Mathlib.Omega.{arith}
 use borrow.Author.Count.{below-more}
 use lib.ListN.{getD}
 use Rattle.tables.specs.Bits.{bit}
-use Rattle.containment.specs.inner.Feasible.{nothing}
-use Rattle.containment.proofs.Images.{pick-here}
-use Rattle.containment.proofs.choosing.first_image.Statement.{statement}
-use Rattle.containment.proofs.choosing.first_image.Tie as tie
+use Rattle.mappings.specs.Fits.{nothing}
+use Rattle.mappings.proofs.Images.{pick-here}
+use Rattle.mappings.proofs.first_image.Statement.{statement}
+use Rattle.mappings.proofs.first_image.Tie as tie
 
 abbrev Inv-loop : tie.InvT-loop
 Inv-loop n own axis fit m s₀ s = (s ≤ m) × ((j : ℕ) → j < s → bit (getD fit j 0) 0 ≡ 1 → ⊥)

@@ -1,8 +1,8 @@
--- `containment::fitting::fits` meets its contract: the steps that fit by their label, with or without the output step. Assumes nothing.
-use Rattle.containment.proofs.StepFits.{fits-last, fits-other}
+-- `mappings::fits` meets its contract: the steps that fit by their label, with or without the output step. Assumes nothing.
+use Rattle.mappings.proofs.StepFits.{fits-last, fits-other}
 use borrow.Author.Needs.{needs}
-use Rattle.containment.proofs.fitting.fits.Statement.{statement}
-use Rattle.containment.proofs.fitting.fits.Tie as tie
+use Rattle.mappings.proofs.fits.Statement.{statement}
+use Rattle.mappings.proofs.fits.Tie as tie
 
 returns : tie.Need-returns
 returns c = λ B p o. fits-last B _ _ _ _ (c .before .fits-grouped .ensures B p) _ (c .if1 .taken)

@@ -1,8 +1,8 @@
--- `containment::choosing::first_steps` meets its contract. Assumes nothing.
+-- `mappings::first_steps` meets its contract. Assumes nothing.
 use native.Mathlib.Omega.{arith}
 use borrow.Author.Needs.{needs}
-use Rattle.containment.proofs.choosing.first_steps.Statement.{statement}
-use Rattle.containment.proofs.choosing.first_steps.Tie as tie
+use Rattle.mappings.proofs.first_steps.Statement.{statement}
+use Rattle.mappings.proofs.first_steps.Tie as tie
 
 returns : tie.Need-returns
 returns c = search needs

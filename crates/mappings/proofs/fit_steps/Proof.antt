@@ -1,10 +1,10 @@
--- `containment::fitting::fit_steps` meets its contract: what the pass looks up is that of b. Assumes nothing.
+-- `mappings::fit_steps` meets its contract: what the pass looks up is that of b. Assumes nothing.
 use native.Mathlib.Omega.{arith}
 use Rattle.tables.specs.Pattern.{shapeOf}
 use Rattle.plan.proofs.Groups.{grouped}
 use borrow.Author.Needs.{needs}
-use Rattle.containment.proofs.fitting.fit_steps.Statement.{statement}
-use Rattle.containment.proofs.fitting.fit_steps.Tie as tie
+use Rattle.mappings.proofs.fit_steps.Statement.{statement}
+use Rattle.mappings.proofs.fit_steps.Tie as tie
 
 fit-turns-requires : tie.Need-fit-turns-requires
 fit-turns-requires c κs =

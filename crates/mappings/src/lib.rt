@@ -1,13 +1,18 @@
-// Which steps of one pattern, B, fit at each step of another, A: the steps of B are bits (docs/RULES.md, "Mappings").
+// Which steps of one pattern, B, fit at each step of another, A, and which of those a step of B goes to first (docs/RULES.md, "Mappings"): the steps of B are
+// bits. An inner crate: its functions are there for containment alone, and ask for what it has checked.
 ghost use mathlib.Core.Path.{_≡_};
-ghost use Prim.Native.Nat.{_≤_, _<_, _^_};
+ghost use mathlib.Core.Logic.{_↔_};
+ghost use Prim.Native.Nat.{ℕ, _≤_, _<_, _^_};
+ghost use lib.Dec.{T};
 ghost use lib.ListN.{length, getD, replicate};
-ghost use Rattle.tables.specs.Bits.{Marks};
+ghost use Rattle.tables.specs.Bits.{bit, Marks};
 ghost use Rattle.tables.specs.Pattern.{Shape, shapeOf, ValidPattern};
 ghost use Rattle.plan.specs.Steps.{maskFor, FitsBy};
 ghost use Rattle.plan.specs.Plans.{GroupPlan};
 ghost use Rattle.plan.specs.Rising.{entries, Turned};
-ghost use Rattle.containment.specs.inner.Feasible.{RightIn, FitTable};
+ghost use Rattle.mappings.specs.Fits.{RightIn, FitTable, Picks, StepLists, ImageAt};
+use plan::BYTE;
+use plan::STEPS;
 use plan::Sets;
 use tables::Pattern;
 
@@ -23,10 +28,10 @@ fn along(axis: u8, f: u64) -> u64
 
 // The steps of b that fit at a step of label l, the output step, as the bit `output`, only where `last` says so.
 fn fits(
-    low: &[u64; 256],
-    high: &[u64; 256],
-    forks: &[u64; 64],
-    later: &[u64; 64],
+    low: &[u64; BYTE],
+    high: &[u64; BYTE],
+    forks: &[u64; STEPS],
+    later: &[u64; STEPS],
     n: usize,
     sets: Sets,
     output: u64,
@@ -47,7 +52,7 @@ fn fits(
 }
 
 // Step i gets what fits at it, f; its parent p gathers f below it, and g, what of f fits along a child edge.
-fn hand_up(fit: &mut [u64; 64], under: &mut [u64; 64], i: usize, p: usize, f: u64, g: u64)
+fn hand_up(fit: &mut [u64; STEPS], under: &mut [u64; STEPS], i: usize, p: usize, f: u64, g: u64)
     requires { ⌜ (p < i) × (i < 64) × (length (now fit) ≡ 64) × (length (now under) ≡ 64) ⌝ }
     ensures sizes { λ _. ⌜ (length (now (fit .exit)) ≡ 64) × (length (now (under .exit)) ≡ 64) ⌝ }
     ensures turn { λ _. ⌜ Turned i p f g (getD (now (under .entry)) i 0) (entries (now (fit .entry))) (entries (now (under .entry))) (entries (now (fit .exit)))
@@ -61,14 +66,14 @@ fn hand_up(fit: &mut [u64; 64], under: &mut [u64; 64], i: usize, p: usize, f: u6
 // Which steps of b fit at each step of a, in a table of zeros: from the last step of a to the first.
 fn fit_turns(
     a: Pattern,
-    low: &[u64; 256],
-    high: &[u64; 256],
-    forks: &[u64; 64],
-    later: &[u64; 64],
+    low: &[u64; BYTE],
+    high: &[u64; BYTE],
+    forks: &[u64; STEPS],
+    later: &[u64; STEPS],
     n: usize,
     sets: Sets,
     output: u64,
-    fit: &mut [u64; 64],
+    fit: &mut [u64; STEPS],
 )
     requires { ⌜ ValidPattern a ⌝ }
     requires { ⌜ n ≤ 64 ⌝ }
@@ -76,7 +81,7 @@ fn fit_turns(
     ensures { λ _. ⌜ ((B : Shape) → GroupPlan B (now (low .entry)) (now (high .entry)) (now (forks .entry)) (now (later .entry)) n sets → output ≡ 2 ^ B .output
         → FitTable B (shapeOf a) (now (fit .exit))) ⌝ }
 {
-    let mut under = [0u64; 64];
+    let mut under = [0u64; STEPS];
     let end = a.output.0 as usize;
     let mut i = a.count;
     while 1 < i {
@@ -114,21 +119,91 @@ fn fit_turns(
 }
 
 // Which steps of b fit at each step of a, in a table of zeros: what is looked up of b is filled first.
-pub(crate) fn fit_steps(a: Pattern, b: Pattern, fit: &mut [u64; 64])
+pub fn fit_steps(a: Pattern, b: Pattern, fit: &mut [u64; STEPS])
     requires { ⌜ ValidPattern a ⌝ }
     requires { ⌜ ValidPattern b ⌝ }
     requires { ⌜ now fit ≡ replicate 64 0 ⌝ }
     ensures { λ _. ⌜ FitTable (shapeOf b) (shapeOf a) (now (fit .exit)) ⌝ }
 {
-    let mut low = [0u64; 256];
-    let mut high = [0u64; 256];
+    let mut low = [0u64; BYTE];
+    let mut high = [0u64; BYTE];
     plan::label_steps(b, &mut low, &mut high);
-    let mut children = [0u64; 64];
-    let mut parents = [0u64; 64];
+    let mut children = [0u64; STEPS];
+    let mut parents = [0u64; STEPS];
     let sets = plan::gather(b, &mut children, &mut parents);
-    let mut forks = [0u64; 64];
-    let mut later = [0u64; 64];
+    let mut forks = [0u64; STEPS];
+    let mut later = [0u64; STEPS];
     let n = plan::group(&children, sets.next, b.count, &mut forks, &mut later);
     let output = plan::one_bit(b.output.0 as usize);
     fit_turns(a, &low, &high, &forks, &later, n, sets, output, fit);
+}
+
+// How many of the first of n steps may take step 0 of a pattern, whose axis is `axis`, where the first of them has axis `own`.
+fn first_steps(n: usize, own: u8, axis: u8) -> usize
+    requires { ⌜ 0 < n ⌝ }
+    ensures { λ r. ⌜ ((j : ℕ) → (j < r) ↔ ((j < n) × (axis ≡ 0 → (j ≡ 0) × (own ≡ 0)))) ⌝ }
+{
+    if axis != 0 {
+        return n;
+    }
+    if own == 0 {
+        return 1;
+    }
+    0
+}
+
+// The smallest of n steps that may take step 0 of a pattern, whose axis is `axis`, where the first of them has axis `own`; 64 where there is none.
+pub fn first_image(n: usize, own: u8, axis: u8, fit: &[u64; 64]) -> usize
+    requires { ⌜ (0 < n) × (n ≤ 64) ⌝ }
+    ensures { λ r. ⌜ Picks (λ j. ((j < n) × (axis ≡ 0 → (j ≡ 0) × (own ≡ 0))) × (bit (getD (now (fit .entry)) j 0) 0 ≡ 1)) r ⌝ }
+{
+    let m = first_steps(n, own, axis);
+    for s in 0..m {
+        if plan::has_bit(fit[s], 0) {
+            return s;
+        }
+    }
+    64
+}
+
+// May a step that goes to step s, below q, be a step of this axis, where s hangs on p along an edge of axis `own`? And does it fit there?
+fn takes(x: u64, t: usize, axis: u8, q: usize, p: usize, own: u8) -> bool
+    requires { ⌜ t < 64 ⌝ }
+    ensures { λ r. ⌜ T r ↔ ((axis ≡ 0 → (p ≡ q) × (own ≡ 0)) × (bit x t ≡ 1)) ⌝ }
+{
+    if !plan::has_bit(x, t) {
+        return false;
+    }
+    if axis != 0 {
+        return true;
+    }
+    if p != q {
+        return false;
+    }
+    own == 0
+}
+
+// The smallest of n steps that may take step t, of this axis, where its parent step is at q; 64 where there is none. The steps hang by `parents` and `axes`.
+// What is below q stands in one run after q: where any step of it may take t, the first after q that fits is not past the run.
+pub fn next_image(
+    parents: &[u8; 64],
+    axes: &[u8; 64],
+    n: usize,
+    fit: &[u64; 64],
+    t: usize,
+    axis: u8,
+    q: usize,
+) -> usize
+    requires { ⌜ (n ≤ 64) × (t < 64) × (q < n) ⌝ }
+    requires { ⌜ ((j : ℕ) → 0 < j → j < n → getD (now parents) j 0 < 64) ⌝ }
+    ensures { λ r. ⌜ ((A : Shape) → StepLists A (now (parents .entry)) (now (axes .entry)) n → ((j : ℕ) × ImageAt A (now (fit .entry)) t axis q j) → Picks
+        (ImageAt A (now (fit .entry)) t axis q) r) ⌝ }
+{
+    for s in q + 1..n {
+        let p = parents[s] as usize;
+        if takes(fit[s], t, axis, q, p, axes[s]) {
+            return s;
+        }
+    }
+    64
 }

@@ -13,7 +13,7 @@ use Rattle.tables.proofs.Rules.{shape-ordered}
 use Rattle.tables.proofs.Trees.{below-lt, below-up, below-here}
 use Rattle.tables.proofs.Depth.{run}
 use Rattle.placing.specs.Placement.{Goes}
-use Rattle.containment.specs.inner.Feasible.{Picks, picked, nothing, ImageAt}
+use Rattle.mappings.specs.Fits.{Picks, picked, nothing, ImageAt}
 
 module _ {X : ℕ → Type 0} where
   -- what is found is the smallest, where nothing before it is right

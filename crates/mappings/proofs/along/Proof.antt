@@ -1,12 +1,12 @@
--- `containment::fitting::along` meets its contract. Assumes nothing.
+-- `mappings::along` meets its contract. Assumes nothing.
 use Prim.Native.Nat.{ℕ, zero, suc}
 use mathlib.Core.Path.{_≡_, refl}
 use mathlib.Core.Logic.{_≢_}
 use native.Mathlib.Omega.{arith}
 use Rattle.plan.specs.Steps.{maskFor}
 use borrow.Author.Needs.{needs}
-use Rattle.containment.proofs.fitting.along.Statement.{statement}
-use Rattle.containment.proofs.fitting.along.Tie as tie
+use Rattle.mappings.proofs.along.Statement.{statement}
+use Rattle.mappings.proofs.along.Tie as tie
 
 -- any axis but 0
 further : (a f : ℕ) → a ≢ 0 → 0 ≡ maskFor a f 0

@@ -1,11 +1,11 @@
--- `containment::fitting::hand_up` meets its contract: the stores leave one turn. Assumes nothing.
+-- `mappings::hand_up` meets its contract: the stores leave one turn. Assumes nothing.
 use denote.Ref.{now}
 use native.Mathlib.Omega.{arith}
 use lib.ListN.{length-set}
-use Rattle.containment.proofs.StepFits.{turned-lists}
+use Rattle.mappings.proofs.StepFits.{turned-lists}
 use borrow.Author.Needs.{needs}
-use Rattle.containment.proofs.fitting.hand_up.Statement.{statement}
-use Rattle.containment.proofs.fitting.hand_up.Tie as tie
+use Rattle.mappings.proofs.hand_up.Statement.{statement}
+use Rattle.mappings.proofs.hand_up.Tie as tie
 
 returns : tie.Need-returns
 returns c =

@@ -1,0 +1,3 @@
+-- The steps that fit and the smallest of them. Assumes nothing.
+pub mod StepFits
+pub mod Images
