@@ -16,7 +16,7 @@ use Rattle.tables.specs.Bits.{bit, Marks}
 use Rattle.tables.specs.Pattern.{Shape}
 use Rattle.tables.proofs.Bits.{set-here, set-other}
 use Rattle.tables.proofs.Marks.{marks-none, marks-to, marks-one}
-use Rattle.tables.proofs.Gathered.{zeros-at, Keyed, keyed-all}
+use Rattle.tables.proofs.MarkTables.{zeros-at, Keyed, keyed-all}
 use Rattle.answers.specs.inner.Plan.{Says, Labelled, Forks, ToParent}
 
 -- the flag of an equality says it

@@ -16,7 +16,7 @@ use Rattle.tables.proofs.Bits.{bit-zero}
 use Rattle.tables.proofs.Marks.{marks-none, marks-to, marks-bits, marks-or, marks-and, marks-without}
 use Rattle.tables.proofs.Rules.{shape-ordered}
 use Rattle.tables.proofs.Trees.{below-lt}
-use Rattle.tables.proofs.Gathered.{Keyed, keyed-all}
+use Rattle.tables.proofs.MarkTables.{Keyed, keyed-all}
 use Rattle.containment.specs.inner.Feasible.{OfLabel}
 use Rattle.containment.specs.inner.Lookup.{without, Labelled, Next, LaterChild, Grouped, Groups, Reached}
 

@@ -5,7 +5,7 @@ use mathlib.Core.Path.{_≡_}
 use native.Mathlib.Omega.{arith}
 use lib.ListN.{getD}
 use Rattle.tables.specs.Bits.{Marks}
-use Rattle.tables.proofs.Gathered.{Among, among-none, among-skip, among-more}
+use Rattle.tables.proofs.MarkTables.{Among, among-none, among-skip, among-more}
 use Rattle.answers.proofs.plan.axis_steps.Statement.{statement}
 use Rattle.answers.proofs.plan.axis_steps.Tie as tie
 

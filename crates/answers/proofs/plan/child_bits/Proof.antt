@@ -4,7 +4,7 @@ use mathlib.Core.Path.{_≡_}
 use native.Mathlib.Omega.{arith}
 use lib.ListN.{length-replicate, length-set, getD, length}
 use Rattle.tables.specs.Pattern.{shapeOf}
-use Rattle.tables.proofs.Gathered.{parent-few, children-all, Keyed, keyed-none, keyed-more}
+use Rattle.tables.proofs.MarkTables.{parent-few, children-all, Keyed, keyed-none, keyed-more}
 use Rattle.answers.proofs.plan.child_bits.Statement.{statement}
 use Rattle.answers.proofs.plan.child_bits.Tie as tie
 

@@ -6,7 +6,7 @@ use mathlib.Core.Path.{_≡_}
 use native.Mathlib.Omega.{arith}
 use lib.ListN.{getD}
 use Rattle.tables.specs.Pattern.{shapeOf}
-use Rattle.tables.proofs.Gathered.{parent-few}
+use Rattle.tables.proofs.MarkTables.{parent-few}
 use Rattle.answers.proofs.Gathering.{forks-all, Forking, forking-none, forking-skip, forking-more}
 use Rattle.answers.proofs.plan.fork_steps.Statement.{statement}
 use Rattle.answers.proofs.plan.fork_steps.Tie as tie

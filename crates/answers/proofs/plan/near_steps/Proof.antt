@@ -7,7 +7,7 @@ use native.Mathlib.Omega.{arith}
 use lib.ListN.{getD}
 use Rattle.tables.specs.Bits.{Marks}
 use Rattle.tables.specs.Pattern.{shapeOf}
-use Rattle.tables.proofs.Gathered.{parent-few, Among, among-none, among-skip, among-more}
+use Rattle.tables.proofs.MarkTables.{parent-few, Among, among-none, among-skip, among-more}
 use Rattle.answers.proofs.plan.near_steps.Statement.{statement}
 use Rattle.answers.proofs.plan.near_steps.Tie as tie
 

@@ -7,7 +7,7 @@ use native.Mathlib.Omega.{arith}
 use lib.ListN.{length-replicate, length-set, getD, length}
 use Rattle.tables.specs.Bits.{Marks}
 use Rattle.tables.specs.Pattern.{shapeOf}
-use Rattle.tables.proofs.Gathered.{parent-few, children-all, Among, among-none, among-skip, among-more, Keyed, keyed-none, keyed-more}
+use Rattle.tables.proofs.MarkTables.{parent-few, children-all, Among, among-none, among-skip, among-more, Keyed, keyed-none, keyed-more}
 use Rattle.containment.proofs.Contained.{axes}
 use Rattle.containment.proofs.fitting.gather.Statement.{statement}
 use Rattle.containment.proofs.fitting.gather.Tie as tie
