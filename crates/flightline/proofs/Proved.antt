@@ -3,7 +3,7 @@ use lib.Dec.{T}
 use Rattle.tables.specs.Column.{blocks}
 use Rattle.tables.specs.Document.{ValidDocument}
 use Rattle.tables.specs.Pattern.{tableOf, patternOf}
-use Rattle.tables.proofs.Climb.{isChild, climbs, isBelow, isFrom, hangsRight}
+use Rattle.tables.proofs.TreeTests.{isChild, climbs, isBelow, isFrom, hangsRight}
 use Rattle.tables.proofs.Marks.{mask}
 use Rattle.tables.proofs.Rules.{isLabel, stepRight, isPattern, nodeRight, isDocument, tells-document, samePattern, sameDocument}
 use Rattle.tables.proofs.Tests.{every, some, sameList}

@@ -79,7 +79,7 @@ fn pattern_in(s: &[u8], n: usize) -> Pattern
 pub fn read_pattern(s: &[u8]) -> PatternRead
     ensures { λ r. ⌜ ReadsPattern (now (s .entry)) r ⌝ }
 {
-    let n = match rows_in(s, 1, 64) {
+    let n = match rows_in(s, 1, tables::STEPS) {
         Counted::Count(n) => n,
         Counted::Refused(r) => {
             return PatternRead {
@@ -192,7 +192,7 @@ fn copy(src: &[u16], n: usize, dst: &mut [u16])
 pub fn read_nodes(s: &[u8], parents: &mut [u16], labels: &mut [u16]) -> Counted
     ensures { λ r. ⌜ ReadsNodes (now (s .entry)) (now (parents .entry)) (now (labels .entry)) r (now (parents .exit)) (now (labels .exit)) ⌝ }
 {
-    let n = match rows_in(s, 0, 2048) {
+    let n = match rows_in(s, 0, tables::NODES) {
         Counted::Count(n) => n,
         Counted::Refused(r) => return Counted::Refused(r),
     };

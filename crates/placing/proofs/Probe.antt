@@ -7,7 +7,7 @@ use lib.Dec.{T}
 use Rattle.tables.specs.Tree.{Tree, Child, child}
 use Rattle.tables.proofs.Trees.{Ordered, below-lt}
 use Rattle.tables.proofs.Tests.{Tells, tells-and, tells-imp, tells-iff, tells-self, imp, every, some, tells-every, tells-some}
-use Rattle.tables.proofs.Climb.{isChild, tells-child}
+use Rattle.tables.proofs.TreeTests.{isChild, tells-child}
 use Rattle.placing.proofs.Fit.{Task, Able, able, able-ok, able-next, Whole, whole-able, whole-root, whole-up, whole-down}
 
 -- the tests of a task, for numbers below a bound, and a test for the first row

@@ -7,7 +7,7 @@ use Rattle.tables.specs.Tree.{Rows}
 use Rattle.tables.specs.Pattern.{Shape}
 use Rattle.tables.proofs.Trees.{Ordered}
 use Rattle.tables.proofs.Tests.{Tells, tells-lt, tells-eq, tells-and, tells-iff}
-use Rattle.tables.proofs.Climb.{isChild, tells-child, isBelow, tells-below}
+use Rattle.tables.proofs.TreeTests.{isChild, tells-child, isBelow, tells-below}
 use Rattle.placing.specs.Placement.{LabelFits, Takes, Goes, Sends, Reaches, ReachesFrom}
 use Rattle.placing.proofs.Fit.{Task, Fit, Able, fit-able, able-fit, Whole}
 use Rattle.placing.proofs.Probe.{Probe, Probes, can, canSend, canWhole, tells-can, tells-whole}

@@ -14,7 +14,7 @@ use Rattle.tables.specs.Bits.{bit, Marks}
 use Rattle.tables.proofs.Bits.{bit-shr, bit-mod, bit-in, bit-least, set-here, set-other}
 use Rattle.tables.proofs.Marks.{marks-none, marks-to, marks-or, with-top, bits-lt}
 use Rattle.plan.specs.Leading.{Doubled, Spread, Led, lookUp}
-use Rattle.tables.proofs.Gathered.{zeros-at}
+use Rattle.tables.proofs.MarkTables.{zeros-at}
 
 -- a table that is being doubled: u entries are written
 pub record Doubling (before : List ℕ) (base top m u : ℕ) (after : List ℕ) : Type 0 where

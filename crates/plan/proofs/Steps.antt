@@ -13,7 +13,7 @@ use Rattle.tables.specs.Bits.{bit, Marks}
 use Rattle.tables.specs.Pattern.{Shape}
 use Rattle.tables.proofs.Bits.{set-here, set-other}
 use Rattle.tables.proofs.Marks.{marks-none, marks-to, marks-one, marks-and}
-use Rattle.tables.proofs.Gathered.{zeros-at, Keyed, keyed-all}
+use Rattle.tables.proofs.MarkTables.{zeros-at, Keyed, keyed-all}
 use Rattle.plan.specs.Steps.{OfLabel, Labelled, Forked}
 use Rattle.plan.specs.Leading.{ToParent}
 

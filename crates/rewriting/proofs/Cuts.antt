@@ -8,7 +8,7 @@ use native.Mathlib.Decide.{decLt, ℕ-discrete}
 use Rattle.tables.specs.Tree.{Tree, Child, Below, child, under, From, IsLabel}
 use Rattle.tables.specs.Pattern.{Shape, StepRule, ValidShape}
 use Rattle.tables.proofs.Choice.{below-or-at}
-use Rattle.tables.proofs.Climb.{isFrom, tells-from}
+use Rattle.tables.proofs.TreeTests.{isFrom, tells-from}
 use Rattle.tables.proofs.Depth.{run}
 use Rattle.tables.proofs.Rules.{Agree, shape-ordered}
 use Rattle.tables.proofs.Tests.{Tells}

@@ -36,50 +36,52 @@ use Rattle.station.specs.Patterns.{joinsChecks, JoinsPackets, rewritesCh
 pub coded-unique : (P Q : Counted → Type 0) (r q : ℤ) → ((a b : Counted) → P a → Q b → a ≡ b) → Coded P r → Coded Q q → r ≡ q
 coded-unique P Q r q u h k = h .code ∙ ap codeOf (u (h .answer) (k .answer) (h .holds) (k .holds)) ∙ sym (k .code)
 
--- whatever is checked first, one answer and one room fit, where one count and one room do
-one-room : (cs : List Check) (r q : Counted) (room₀ room room′ : List ℕ) (X X′ : ℕ → Type 0) → ((c e : ℕ) → X c → X′ e → (c ≡ e) × (room ≡ room′))
-    → CountedBy cs r X (room ≡ room₀) → CountedBy cs q X′ (room′ ≡ room₀) → (r ≡ q) × (room ≡ room′)
-one-room cs r q room₀ room room′ X X′ u h k =
-    (counted-unique cs r q X _ X′ _ (λ c e x y. u c e x y .0) h k, counted-both cs r q (λ c e x y. u c e x y .1) (λ x y. x ∙ sym y) h k)
+-- what a call leaves in the room by a count, and in no second way
+abbrev One : (List ℕ → ℕ → List ℕ → Type 0) → Type 0
+One X = (room₀ room room′ : List ℕ) (c e : ℕ) → X room₀ c room → X room₀ e room′ → (c ≡ e) × (room ≡ room′)
+
+-- whatever is checked first, one answer and one room fit
+one-room : (cs : List Check) (X : List ℕ → ℕ → List ℕ → Type 0) → One X → (room₀ : List ℕ) (r q : Counted) (room room′ : List ℕ)
+    → CountedBy cs r (λ c. X room₀ c room) (room ≡ room₀) → CountedBy cs q (λ c. X room₀ c room′) (room′ ≡ room₀) → (r ≡ q) × (room ≡ room′)
+one-room cs X u room₀ r q room room′ h k = (
+  counted-unique cs r q (λ c. X room₀ c room) _ (λ c. X room₀ c room′) _ (λ c e x y. u room₀ room room′ c e x y .0) h k,
+  counted-both cs r q (λ c e x y. u room₀ room room′ c e x y .1) (λ x y. x ∙ sym y) h k,
+)
 
 -- one pattern is put in one way
-put-unique : (p q : Pattern) (room₀ room room′ : List ℕ) (c e : ℕ) → p ≡ q → PacketPut p room₀ c room → PacketPut q room₀ e room′ → (c ≡ e) × (room ≡ room′)
-put-unique p q room₀ room room′ c e s x y =
+put-unique : {p q : Pattern} → p ≡ q → (room₀ room room′ : List ℕ) (c e : ℕ) → PacketPut p room₀ c room → PacketPut q room₀ e room′ → (c ≡ e) × (room ≡ room′)
+put-unique s room₀ room room′ c e x y =
     let n : c ≡ e = x .0 ∙ ap lengthOf s ∙ sym (y .0) in
     (n, x .1 ∙ ap₂ (λ (p : Pattern) (m : ℕ). patternPacket (shapeOf p) ++ drop m room₀) s n ∙ sym (y .1))
 
 pub joins-packets-unique : (us es room₀ : List ℕ) (r q : Counted) (room room′ : List ℕ) → JoinsPackets us es room₀ r room → JoinsPackets us es room₀ q room′ →
     (r ≡ q) × (room ≡ room′)
 joins-packets-unique us es room₀ r q room room′ h k =
-    let J = joinOf (packetPattern us) (packetPattern es) in
-    one-room (joinsChecks us es (length room₀)) r q room₀ room room′ (λ c. PacketPut J room₀ c room) (λ c. PacketPut J room₀ c room′)
-    (λ c e x y. put-unique J J room₀ room room′ c e refl x y) (h .says) (k .says)
+    one-room (joinsChecks us es (length room₀)) (PacketPut (joinOf (packetPattern us) (packetPattern es)))
+    (put-unique {p = joinOf (packetPattern us) (packetPattern es)} refl) room₀ r q room room′
+    (h .says) (k .says)
 
-rewritten-unique : (Q U : Pattern) (room₀ room room′ : List ℕ) (c e : ℕ) → Rewritten Q U room₀ c room → Rewritten Q U room₀ e room′ → (c ≡ e) × (room ≡ room′)
+rewritten-unique : (Q U : Pattern) → One (Rewritten Q U)
 rewritten-unique Q U room₀ room room′ zero zero x y = (refl, x .1 ∙ sym (y .1))
 rewritten-unique Q U room₀ room room′ zero (suc e) x y = absurd (x .0 (y .0) (y .1))
 rewritten-unique Q U room₀ room room′ (suc c) zero x y = absurd (y .0 (x .0) (x .1))
-rewritten-unique Q U room₀ room room′ (suc c) (suc e) x y = put-unique (x .0) (y .0) room₀ room room′ (suc c) (suc e) (candidate-unique (x .1 .0) (y .1 .0))
-    (x .2) (y .2)
+rewritten-unique Q U room₀ room room′ (suc c) (suc e) x y = put-unique (candidate-unique (x .1 .0) (y .1 .0)) room₀ room room′ (suc c) (suc e) (x .2) (y .2)
 
 pub rewrites-packets-unique : (qs us room₀ : List ℕ) (r q : Counted) (room room′ : List ℕ) → RewritesPackets qs us room₀ r room → RewritesPackets qs us room₀
     q room′ → (r ≡ q) × (room ≡ room′)
 rewrites-packets-unique qs us room₀ r q room room′ h k =
-    one-room (rewritesChecks qs us (length room₀)) r q room₀ room room′
-    (λ c. Rewritten (packetPattern qs) (packetPattern us) room₀ c room) (λ c. Rewritten (packetPattern qs) (packetPattern us) room₀ c room′)
-    (λ c e x y. rewritten-unique (packetPattern qs) (packetPattern us) room₀ room room′ c e x y) (h .says) (k .says)
+    one-room (rewritesChecks qs us (length room₀)) (Rewritten (packetPattern qs) (packetPattern us)) (rewritten-unique (packetPattern qs) (packetPattern us))
+    room₀ r q room room′ (h .says) (k .says)
 
 pub copies-packet-unique : (bs room₀ : List ℕ) (r q : Counted) (room room′ : List ℕ) → CopiesPacket bs room₀ r room → CopiesPacket bs room₀ q room′ → (r ≡ q)
     × (room ≡ room′)
 copies-packet-unique bs room₀ r q room room′ h k =
-    one-room (patternChecks bs ++ roomFor (length bs) (length room₀)) r q room₀ room room′
-    (λ c. (c ≡ length bs) × (room ≡ bs ++ drop c room₀)) (λ c. (c ≡ length bs) × (room′ ≡ bs ++ drop c room₀))
-    (λ c e x y. (x .0 ∙ sym (y .0), x .1 ∙ ap (λ m. bs ++ drop m room₀) (x .0 ∙ sym (y .0)) ∙ sym (y .1))) (h .says) (k .says)
+    one-room (patternChecks bs ++ roomFor (length bs) (length room₀)) (λ room₀ c room. (c ≡ length bs) × (room ≡ bs ++ drop c room₀))
+    (λ room₀ room room′ c e x y. (x .0 ∙ sym (y .0), x .1 ∙ ap (λ m. bs ++ drop m room₀) (x .0 ∙ sym (y .0)) ∙ sym (y .1))) room₀ r q room room′
+    (h .says) (k .says)
 
-answered-unique : (First : ℕ → Type 0) (A : Shape) (d : Document) (room₀ room room′ : List ℕ) (c e : ℕ) → AnswersPut First A d room₀ c room → AnswersPut First
-    A d
-    room₀ e room′ → (c ≡ e) × (room ≡ room′)
-answered-unique First A d room₀ room room′ c e x y =
+answers-unique : (First : ℕ → Type 0) (A : Shape) (d : Document) → One (AnswersPut First A d)
+answers-unique First A d room₀ room room′ c e x y =
     let s = lists-unique (Started First A d) (x .answers) (y .answers) (x .lists) (y .lists) in
     let n : c ≡ e = x .count ∙ ap length s ∙ sym (y .count) in
     (n, x .written ∙ ap₂ (λ (xs : List ℕ) (m : ℕ). packed xs ++ drop (2 * m) room₀) s n ∙ sym (y .written))
@@ -88,19 +90,17 @@ pub answers-packets-unique : (ds ps room₀ : List ℕ) (r q : Counted) (room ro
     room′ → (r ≡ q) × (room ≡ room′)
 answers-packets-unique ds ps room₀ r q room room′ h k =
     let A = shapeOf (packetPattern ps) in
-    one-room (packetChecks ds ps (length room₀)) r q room₀ room room′
-    (λ c. AnswersPut (Begins A) A (packetDocument ds) room₀ c room) (λ c. AnswersPut (Begins A) A (packetDocument ds) room₀ c room′)
-    (λ c e x y. answered-unique (Begins A) A (packetDocument ds) room₀ room room′ c e x y) (h .says) (k .says)
+    one-room (packetChecks ds ps (length room₀)) (AnswersPut (Begins A) A (packetDocument ds)) (answers-unique (Begins A) A (packetDocument ds)) room₀ r q room
+    room′ (h .says) (k .says)
 
 pub starts-packets-unique : (ds ps ss room₀ : List ℕ) (r q : Counted) (room room′ : List ℕ) → StartsPackets ds ps ss room₀ r room → StartsPackets ds ps ss
     room₀ q room′ → (r ≡ q) × (room ≡ room′)
 starts-packets-unique ds ps ss room₀ r q room room′ h k =
     let A = shapeOf (packetPattern ps) in
-    one-room (startChecks ds ps ss (length room₀)) r q room₀ room room′
-    (λ c. AnswersPut (In (unpacked ss)) A (packetDocument ds) room₀ c room) (λ c. AnswersPut (In (unpacked ss)) A (packetDocument ds) room₀ c room′)
-    (λ c e x y. answered-unique (In (unpacked ss)) A (packetDocument ds) room₀ room room′ c e x y) (h .says) (k .says)
+    one-room (startChecks ds ps ss (length room₀)) (AnswersPut (In (unpacked ss)) A (packetDocument ds))
+    (answers-unique (In (unpacked ss)) A (packetDocument ds)) room₀ r q room room′ (h .says) (k .says)
 
-shown-unique : (A B : Pattern) (room₀ room room′ : List ℕ) (c e : ℕ) → Shown A B room₀ c room → Shown A B room₀ e room′ → (c ≡ e) × (room ≡ room′)
+shown-unique : (A B : Pattern) → One (Shown A B)
 shown-unique A B room₀ room room′ zero zero x y =
     let W : ℕ → List ℕ = λ l. documentPacket (witnessOf (shapeOf A) l) ++ (high (answerNode (shapeOf A)) ∷ low (answerNode (shapeOf A)) ∷ []) ++ drop
     (4 * witnessSize (shapeOf A) + 3 + 2) room₀ in
@@ -119,9 +119,8 @@ shown-unique A B room₀ room room′ (suc (suc c)) e x y = absurd x
 pub contains-packets-unique : (xs ys room₀ : List ℕ) (r q : Counted) (room room′ : List ℕ) → ContainsPackets xs ys room₀ r room → ContainsPackets xs ys room₀
     q room′ → (r ≡ q) × (room ≡ room′)
 contains-packets-unique xs ys room₀ r q room room′ h k =
-    one-room (containsChecks xs ys (length room₀)) r q room₀ room room′
-    (λ c. Shown (packetPattern xs) (packetPattern ys) room₀ c room) (λ c. Shown (packetPattern xs) (packetPattern ys) room₀ c room′)
-    (λ c e x y. shown-unique (packetPattern xs) (packetPattern ys) room₀ room room′ c e x y) (h .says) (k .says)
+    one-room (containsChecks xs ys (length room₀)) (Shown (packetPattern xs) (packetPattern ys)) (shown-unique (packetPattern xs) (packetPattern ys)) room₀ r q
+    room room′ (h .says) (k .says)
 
 pub reads-into-unique : (bs parents₀ labels₀ : List ℕ) (r q : Counted) (parents parents′ labels labels′ : List ℕ) → ReadsInto bs parents₀ labels₀ r parents
     labels → ReadsInto bs parents₀ labels₀ q parents′ labels′

@@ -1,14 +1,15 @@
 -- Rows hang right together in trees that agree, and shapes that agree obey the rules together. Assumes nothing.
 use Prim.Native.Nat.{ℕ, zero, suc, _≤_, _<_}
-use mathlib.Core.Path.{_≡_, sym, _∙_, subst}
+use mathlib.Core.Path.{_≡_, refl, sym, _∙_, subst}
 use mathlib.Core.Logic.{_⊎_, inl, inr, _↔_}
-use mathlib.Core.List.{List}
 use native.Mathlib.Omega.{arith}
 use lib.ListN.{length, getD, take}
 use lib.Seq.{length-take-le, getD-take}
 use Rattle.tables.specs.Tree.{Tree, Child, Below, child, under, From, Hangs, IsLabel}
-use Rattle.tables.specs.Pattern.{Shape, StepRule, ValidShape}
-use Rattle.tables.proofs.Rules.{Agree}
+use Rattle.tables.specs.Pattern.{Shape, shapeOf, StepRule, ValidShape, ValidPattern}
+use Rattle.tables.specs.inner.Steps.{stepsOf}
+use Rattle.tables.specs.declared.Pattern.{Pattern}
+use Rattle.tables.proofs.Rules.{Agree, agree-sym}
 
 module _ {S T : Tree} (n : S .size ≡ T .size) (p : (i : ℕ) → i < S .size → S .parent i ≡ T .parent i) where
   child-agree : {a i : ℕ} → Child S a i → Child T a i
@@ -28,13 +29,6 @@ module _ {S T : Tree} (n : S .size ≡ T .size) (p : (i : ℕ) → i < S .size �
       from (inl e) = inl e
       from (inr b) = inr (below-agree b)
 
--- a row hangs right in a table of n rows exactly if it does in the table's first n entries
-pub hangs-front : (ps : List ℕ) (n : ℕ) → n ≤ length ps → (root s : ℕ) → s < n
-    → Hangs (record { size = n; parent = λ j. getD ps j 0 }) root s ↔ Hangs (record { size = length (take n ps); parent = λ j. getD (take n ps) j 0 }) root s
-hangs-front ps n l root s h =
-    let e : length (take n ps) ≡ n = length-take-le n ps l in
-    (hangs-agree (sym e) (λ i m. sym (getD-take n ps i 0 m)) root s h, hangs-agree e (λ i m. getD-take n ps i 0 (omega arith)) root s (omega arith))
-
 -- shapes that agree are valid together
 pub valid-agree : {A B : Shape} → Agree A B → ValidShape A → ValidShape B
 valid-agree {A} {B} e v = record {
@@ -50,3 +44,36 @@ valid-agree {A} {B} e v = record {
       axis = subst (λ (x : ℕ). (x ≡ 0) ⊎ (x ≡ 1)) (e .axis s l) (v .steps s l .axis);
       label = subst IsLabel (e .label s l) (v .steps s l .label);
     }
+
+-- the first entries of a table's lists say what the table says
+front-agree : (p : Pattern) (n : ℕ) → n ≡ p .count → n ≤ length (p .parent)
+    → Agree (record {
+      tree = stepsOf (take n (p .parent)) (take n (p .axis)) (take n (p .label)) .tree;
+      label = λ s. getD (take n (p .label)) s 0;
+      axis = λ s. getD (take n (p .axis)) s 0;
+      output = p .output .0;
+    }) (shapeOf p)
+front-agree p n e l =
+    let m : length (take n (p .parent)) ≡ n = length-take-le n (p .parent) l in
+    record {
+      size = m ∙ e;
+      output = refl;
+      parent = λ s l. getD-take n (p .parent) s 0 (omega arith);
+      axis = λ s l. getD-take n (p .axis) s 0 (omega arith);
+      label = λ s l. getD-take n (p .label) s 0 (omega arith);
+    }
+
+-- a pattern with its steps and its output step in range obeys the rules exactly if each of the steps in its lists does
+pub steps-valid : (p : Pattern) (n : ℕ) → n ≡ p .count → n ≤ length (p .parent) → 0 < n → n ≤ 64 → p .output .0 < n
+    → ((s : ℕ) → s < length (take n (p .parent)) → StepRule (stepsOf (take n (p .parent)) (take n (p .axis)) (take n (p .label))) s) ↔ ValidPattern p
+steps-valid p n e l some few out =
+    let a = front-agree p n e l in
+    let m : length (take n (p .parent)) ≡ n = length-take-le n (p .parent) l in (
+      λ h. valid-agree a (record {
+        some = omega (arith, m);
+        few = omega (arith, m);
+        steps = λ s l. record { hangs = h s l .hangs; axis = h s l .axis; label = h s l .label };
+        output = omega (arith, m);
+      }),
+      λ v s l. let r = valid-agree (agree-sym a) v .steps s l in record { hangs = r .hangs; axis = r .axis; label = r .label },
+    )

@@ -2,8 +2,8 @@
 pub mod Choice
 pub mod Tests
 pub mod Trees
-pub mod Climb
-pub mod Climbing
+pub mod TreeTests
+pub mod Hanging
 pub mod Depth
 pub mod Columns
 pub mod Rules
@@ -13,4 +13,4 @@ pub mod Agreement
 pub mod Outcomes
 pub mod Bits
 pub mod Marks
-pub mod Gathered
+pub mod MarkTables

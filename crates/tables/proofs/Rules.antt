@@ -13,7 +13,7 @@ use Rattle.tables.specs.declared.Pattern.{Pattern}
 use Rattle.tables.proofs.Trees.{Ordered}
 use Rattle.tables.proofs.Columns.{padded-at, padded-ext}
 use Rattle.tables.proofs.Tests.{Tells, tells-lt, tells-eq, tells-and, tells-or, tells-iff, tells-self, every, tells-every, and-both, sameList, same-list}
-use Rattle.tables.proofs.Climb.{hangsRight, hangs-sound, hangs-complete}
+use Rattle.tables.proofs.TreeTests.{hangsRight, hangs-sound, hangs-complete}
 
 pub shape-ordered : {A : Shape} → ValidShape A → Ordered (A .tree)
 shape-ordered v = record { some = v .some; order = λ s h. v .steps (suc s) h .hangs }

@@ -6,3 +6,4 @@ pub mod Pattern
 pub mod Refusal
 pub mod Bits
 pub mod Checks
+pub mod inner

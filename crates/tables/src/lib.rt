@@ -6,11 +6,17 @@ ghost use mathlib.Core.Path.{_≡_};
 ghost use mathlib.Core.Logic.{_↔_};
 ghost use lib.ListN.{length, getD};
 ghost use lib.Dec.{T};
-ghost use Rattle.tables.specs.Document.{documentOf};
+ghost use Rattle.tables.specs.Document.{documentOf, NodeRule};
 ghost use Rattle.tables.specs.Tree.{Hangs};
-ghost use Rattle.tables.specs.Pattern.{zeroPattern};
+ghost use Rattle.tables.specs.Pattern.{zeroPattern, StepRule};
 ghost use Rattle.tables.specs.Refusal.{number};
 ghost use Rattle.tables.specs.Checks.{ChecksDocument, ChecksPattern};
+ghost use Rattle.tables.specs.inner.Steps.{stepsOf};
+
+// The most steps that a pattern has, and the most nodes of a document.
+pub const STEPS: usize = 64;
+
+pub const NODES: usize = 2048;
 
 // The number of a step in a pattern.
 pub struct StepNo(pub u8);
@@ -100,27 +106,30 @@ fn node_hangs(parents: &[u16], i: usize) -> bool
     a == p
 }
 
+// Does node i obey its rule, given that every node before it does?
+fn node_right(parents: &[u16], labels: &[u16], i: usize) -> bool
+    requires { ⌜ (i < length (now parents)) × (length (now labels) ≡ length (now parents)) ⌝ }
+    requires { ⌜ ((k : ℕ) → k < i → NodeRule (documentOf (now parents) (now labels)) k) ⌝ }
+    ensures { λ r. ⌜ T r ↔ NodeRule (documentOf (now (parents .entry)) (now (labels .entry))) i ⌝ }
+{
+    if labels[i] == 0 {
+        return false;
+    }
+    node_hangs(parents, i)
+}
+
 // Right exactly where the two lists are a document that obeys the rules; else refused by BadDocument. A node that one climb leaves behind is met by no
 // later climb.
 pub fn check_document(parents: &[u16], labels: &[u16]) -> Checked
     ensures { λ r. ⌜ ChecksDocument (documentOf (now (parents .entry)) (now (labels .entry))) r ⌝ }
 {
     let n = parents.len();
-    if n == 0 {
-        return Checked::Refused(Refusal::BadDocument);
-    }
-    if 2048 < n {
-        return Checked::Refused(Refusal::BadDocument);
-    }
-    if labels.len() != n {
+    if n == 0 || NODES < n || labels.len() != n {
         return Checked::Refused(Refusal::BadDocument);
     }
     let mut i = 0;
     while i < n {
-        if labels[i] == 0 {
-            return Checked::Refused(Refusal::BadDocument);
-        }
-        if !node_hangs(parents, i) {
+        if !node_right(parents, labels, i) {
             return Checked::Refused(Refusal::BadDocument);
         }
         i += 1;
@@ -145,34 +154,48 @@ fn step_hangs(parents: &[u8], s: usize) -> bool
     a == p
 }
 
+// Does step s obey its rule, given that every step before it does? The three lists have an entry for each step: a pattern by value would be copied.
+fn step_right(parents: &[u8], axes: &[u8], labels: &[u16], s: usize) -> bool
+    requires { ⌜ (s < length (now parents)) × (length (now axes) ≡ length (now parents)) × (length (now labels) ≡ length (now parents)) ⌝ }
+    requires { ⌜ ((k : ℕ) → k < s → StepRule (stepsOf (now parents) (now axes) (now labels)) k) ⌝ }
+    ensures { λ r. ⌜ T r ↔ StepRule (stepsOf (now (parents .entry)) (now (axes .entry)) (now (labels .entry))) s ⌝ }
+{
+    if 1 < axes[s] || labels[s] == 0 {
+        return false;
+    }
+    step_hangs(parents, s)
+}
+
+// Does every step obey its rule?
+fn steps_right(parents: &[u8], axes: &[u8], labels: &[u16]) -> bool
+    requires { ⌜ (length (now axes) ≡ length (now parents)) × (length (now labels) ≡ length (now parents)) ⌝ }
+    ensures { λ r. ⌜ T r ↔ ((s : ℕ) → s < length (now (parents .entry))
+        → StepRule (stepsOf (now (parents .entry)) (now (axes .entry)) (now (labels .entry))) s) ⌝ }
+{
+    let mut s = 0;
+    while s < parents.len() {
+        if !step_right(parents, axes, labels, s) {
+            return false;
+        }
+        s += 1;
+    }
+    true
+}
+
 // Right exactly where the pattern obeys the rules; else refused by BadPattern.
 pub fn check_pattern(p: Pattern) -> Checked
     ensures { λ r. ⌜ ChecksPattern p r ⌝ }
 {
     let n = p.count;
-    if n == 0 {
-        return Checked::Refused(Refusal::BadPattern);
-    }
-    if 64 < n {
-        return Checked::Refused(Refusal::BadPattern);
-    }
     let output = p.output.0 as usize;
-    if n <= output {
+    if n == 0 || STEPS < n || n <= output {
         return Checked::Refused(Refusal::BadPattern);
     }
     let parents = p.parent;
-    let mut s = 0;
-    while s < n {
-        if 1 < p.axis[s] {
-            return Checked::Refused(Refusal::BadPattern);
-        }
-        if p.label[s] == 0 {
-            return Checked::Refused(Refusal::BadPattern);
-        }
-        if !step_hangs(&parents[..n], s) {
-            return Checked::Refused(Refusal::BadPattern);
-        }
-        s += 1;
+    let axes = p.axis;
+    let labels = p.label;
+    if steps_right(&parents[..n], &axes[..n], &labels[..n]) {
+        return Checked::Right;
     }
-    Checked::Right
+    Checked::Refused(Refusal::BadPattern)
 }

@@ -7,7 +7,7 @@ use borrow.Author.Needs.{needs}
 use lib.Dec.{eqb}
 use lib.ListN.{length, getD}
 use Rattle.tables.specs.Pattern.{Shape, shapeOf, rowsOf}
-use Rattle.tables.proofs.Gathered.{zeros-at}
+use Rattle.tables.proofs.MarkTables.{zeros-at}
 use Rattle.tables.proofs.Rules.{shape-ordered}
 use Rattle.tables.proofs.Trees.{parent-lt}
 use Rattle.tables.proofs.Tests.{tells-eq}

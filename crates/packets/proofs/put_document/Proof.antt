@@ -19,8 +19,9 @@ abbrev μ-loop : tie.MeasureT-loop
 loop-again : tie.Need-loop-again Inv-loop μ-loop
 unfolding nodeBytes
 loop-again c =
-    let l = c .before .before .before .before .before .before .before .loop in
-    let a = c .before .before .before .before .before .before .before .before .before .before .before .before .before .before .before .args in
+    let x = c .before .before .before .before .before .before .before in
+    let l = x .loop in
+    let a = x .before .before .before .before .before .before .before .before .args in
     let d = documentOf (now (a .parents)) (now (a .labels)) in (
       omega arith,
       rows-next (nodeBytes d) 3 4 _ (l .i) (l .out) _ (omega arith) (node-four d) (c .before .before .put-node .kept .0) (c .before .before .put-node .ensures)

@@ -7,7 +7,7 @@ use native.Mathlib.Omega.{arith}
 use lib.ListN.{length-replicate, length-set, getD, length}
 use Rattle.tables.specs.Bits.{Marks}
 use Rattle.tables.specs.Pattern.{shapeOf}
-use Rattle.tables.proofs.Gathered.{parent-few, children-all, Among, among-none, among-skip, among-more, Keyed, keyed-none, keyed-more}
+use Rattle.tables.proofs.MarkTables.{parent-few, children-all, Among, among-none, among-skip, among-more, Keyed, keyed-none, keyed-more}
 use Rattle.plan.proofs.Steps.{Pointed, pointed-none, pointed-more, Forking, forking-none, forking-skip, forking-more, forks-all, parents-all}
 use Rattle.plan.proofs.gather.Statement.{statement}
 use Rattle.plan.proofs.gather.Tie as tie

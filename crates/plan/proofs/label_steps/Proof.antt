@@ -4,7 +4,7 @@ use mathlib.Core.Path.{_≡_}
 use native.Mathlib.Omega.{arith}
 use lib.ListN.{length-replicate, length-set, getD, length}
 use Rattle.tables.specs.Pattern.{shapeOf}
-use Rattle.tables.proofs.Gathered.{label-small, Keyed, keyed-none, keyed-more}
+use Rattle.tables.proofs.MarkTables.{label-small, Keyed, keyed-none, keyed-more}
 use Rattle.plan.proofs.Steps.{labelled-all}
 use Rattle.plan.proofs.label_steps.Statement.{statement}
 use Rattle.plan.proofs.label_steps.Tie as tie

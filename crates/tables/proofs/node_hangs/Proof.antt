@@ -2,7 +2,7 @@
 use native.Mathlib.Omega.{arith}
 use denote.Ref.{now}
 use borrow.Author.Needs.{needs}
-use Rattle.tables.proofs.Climbing.{listed, Climbs, first-hangs, climb-falls, climb-starts, climb-goes, climb-ends}
+use Rattle.tables.proofs.Hanging.{listed, Climbs, first-hangs, climb-falls, climb-starts, climb-goes, climb-ends}
 use Rattle.tables.proofs.node_hangs.Statement.{statement}
 use Rattle.tables.proofs.node_hangs.Tie as tie
 

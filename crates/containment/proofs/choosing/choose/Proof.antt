@@ -8,7 +8,7 @@ use denote.Ref.{now}
 use Rattle.tables.specs.Pattern.{shapeOf}
 use Rattle.tables.specs.declared.StepNo.{StepNo}
 use Rattle.tables.proofs.Choice.{upd}
-use Rattle.tables.proofs.Gathered.{parent-few}
+use Rattle.tables.proofs.MarkTables.{parent-few}
 use Rattle.tables.proofs.Rules.{shape-ordered}
 use Rattle.tables.proofs.Trees.{parent-lt}
 use Rattle.placing.proofs.Fit.{able-ok}

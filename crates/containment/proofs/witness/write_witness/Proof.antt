@@ -6,7 +6,7 @@ use denote.Ref.{now}
 use native.Mathlib.Omega.{arith}
 use lib.ListN.{length, length-set}
 use Rattle.tables.specs.Pattern.{Shape, shapeOf}
-use Rattle.tables.proofs.Gathered.{parent-few}
+use Rattle.tables.proofs.MarkTables.{parent-few}
 use Rattle.containment.specs.Witness.{hook, witnessOf}
 use Rattle.containment.proofs.Nodes.{descendants-le}
 use Rattle.containment.proofs.WitnessSteps.{Front, NodesTo, front-none, nodes-more, hook-is, front-more, front-room, front-lengths}
