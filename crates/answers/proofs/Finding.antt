@@ -13,7 +13,8 @@ use Rattle.tables.specs.Pattern.{Shape, ValidShape}
 use Rattle.tables.proofs.Tests.{Tells}
 use Rattle.placing.specs.Answer.{Begins, In}
 use Rattle.answers.specs.Answers.{Found}
-use Rattle.answers.specs.inner.Passes.{Fitted, Marked, Ready}
+use Rattle.marking.specs.Entries.{Fitted, Marked}
+use Rattle.answers.specs.inner.Standing.{Ready}
 use Rattle.answers.proofs.Tested.{isIn, tells-in}
 
 -- what the list held before the second pass matters only in its length and past the nodes' entries
