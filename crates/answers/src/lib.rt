@@ -1,5 +1,4 @@
 // The answers of a pattern in a document (docs/RULES.md, "Answers"). Both forms make two passes over the nodes, with the steps of a pattern as bits.
-ghost use mathlib.Core.Path.{_≡_};
 ghost use Prim.Native.Nat.{ℕ, _*_, _≤_, _<_};
 ghost use lib.ListN.{length, getD};
 ghost use Rattle.tables.specs.Document.{ValidDocument, documentOf};

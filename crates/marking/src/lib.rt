@@ -2,7 +2,7 @@
 // entries. An inner crate: its functions are there for the Answers call alone, and ask for what it has checked.
 ghost use mathlib.Core.Path.{_≡_};
 ghost use mathlib.Core.Logic.{_↔_};
-ghost use mathlib.Core.List.{List, _++_};
+ghost use mathlib.Core.List.{_++_};
 ghost use Prim.Native.Nat.{ℕ, _+_, _*_, _≤_, _<_};
 ghost use lib.Dec.{T};
 ghost use lib.ListN.{length, getD, drop, replicate};
