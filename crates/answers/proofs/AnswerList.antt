@@ -17,7 +17,8 @@ use Rattle.placing.specs.Answer.{Started}
 use Rattle.placing.proofs.Listing.{lists-none, lists-more, lists-iff}
 use Rattle.answers.specs.Working.{PlacedAt}
 use Rattle.answers.specs.Answers.{Found}
-use Rattle.answers.specs.inner.Passes.{Marked, Ready, Downward, Listed, Noted}
+use Rattle.marking.specs.Entries.{Marked, Noted}
+use Rattle.answers.specs.inner.Standing.{Ready, Downward, Listed}
 
 -- where two ways to say the start agree on the nodes, placements agree
 pub reaches-first : (A : Shape) (d : Document) (First Other : ℕ → Type 0) → ValidShape A → ((i : ℕ) → i < nodeCount d → First i → Other i) → (s i : ℕ)

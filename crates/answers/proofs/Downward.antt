@@ -19,8 +19,8 @@ use Rattle.placing.specs.Placement.{Goes}
 use Rattle.placing.proofs.Fit.{Whole, whole-able, whole-root, whole-up, whole-down}
 use Rattle.placing.proofs.Sending.{task, reaches-whole}
 use Rattle.answers.specs.Working.{FitsAt, PlacedAt}
-use Rattle.answers.specs.inner.Passes.{Allowed, PassedOn, Downward}
-use Rattle.answers.proofs.Upward.{can}
+use Rattle.answers.specs.inner.Standing.{Allowed, PassedOn, Downward}
+use Rattle.marking.proofs.Upward.{can}
 
 module _ (A : Shape) (d : Document) (First : ℕ → Type 0) (va : ValidShape A) where
   placed-whole : (i s : ℕ) → PlacedAt A d First i s → Whole (task A (nodesOf d)) First s i

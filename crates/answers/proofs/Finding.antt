@@ -1,5 +1,5 @@
 -- From the first pass to the second: how the starts are marked in both forms of the call. Assumes nothing.
-use Prim.Native.Nat.{ℕ, zero, _+_, _*_, _≤_, _<_}
+use Prim.Native.Nat.{ℕ, _+_, _*_, _≤_, _<_}
 use mathlib.Core.Path.{_≡_, ap, _∙_, subst}
 use mathlib.Core.Logic.{_⊎_, inl, inr, ⊎-elim, _↔_}
 use mathlib.Core.Bool.{Bool, true, false}
@@ -13,7 +13,8 @@ use Rattle.tables.specs.Pattern.{Shape, ValidShape}
 use Rattle.tables.proofs.Tests.{Tells}
 use Rattle.placing.specs.Answer.{Begins, In}
 use Rattle.answers.specs.Answers.{Found}
-use Rattle.answers.specs.inner.Passes.{Fitted, Marked, Ready}
+use Rattle.marking.specs.Entries.{Fitted, Marked}
+use Rattle.answers.specs.inner.Standing.{Ready}
 use Rattle.answers.proofs.Tested.{isIn, tells-in}
 
 -- what the list held before the second pass matters only in its length and past the nodes' entries

@@ -13,7 +13,7 @@ use Rattle.tables.specs.Document.{Document, nodeCount, nodesOf}
 use Rattle.tables.specs.Pattern.{Shape, ValidShape}
 use Rattle.tables.proofs.Marks.{marks-to, marks-none}
 use Rattle.answers.specs.Working.{PlacedAt}
-use Rattle.answers.specs.inner.Passes.{Allowed, PassedOn, Downward}
+use Rattle.answers.specs.inner.Standing.{Allowed, PassedOn, Downward}
 use Rattle.answers.proofs.Downward.{Over, node-placed, node-allowed, down-turn}
 
 module _ (A : Shape) (va : ValidShape A) (d : Document) (First : ℕ → Type 0) where

@@ -1,5 +1,4 @@
 // The answers of a pattern in a document (docs/RULES.md, "Answers"). Both forms make two passes over the nodes, with the steps of a pattern as bits.
-ghost use mathlib.Core.Path.{_≡_};
 ghost use Prim.Native.Nat.{ℕ, _*_, _≤_, _<_};
 ghost use lib.ListN.{length, getD};
 ghost use Rattle.tables.specs.Document.{ValidDocument, documentOf};
@@ -7,7 +6,7 @@ ghost use Rattle.tables.specs.Pattern.{shapeOf, ValidPattern};
 ghost use Rattle.placing.specs.Answer.{Begins, In};
 ghost use Rattle.answers.specs.Answers.{Found, FindsAnswers, FindsStarted};
 
-mod passes;
+mod standing;
 
 use tables::Checked;
 use tables::Counted;
@@ -23,10 +22,10 @@ fn find(p: Pattern, parents: &[u16], labels: &[u16], list: &mut [u16], work: &mu
         (now (work .entry)) r (now (list .exit)) (now (work .exit)) ⌝ }
 {
     let seed = p.axis[0] as u64;
-    passes::fit_nodes(p, parents, labels, seed, work);
+    marking::fit_nodes(p, parents, labels, seed, work);
     // node 0 may take step 0 whatever its axis: its second entry is marked as a start
     work[1] = 1;
-    passes::place_nodes(p, parents, work, list)
+    standing::place_nodes(p, parents, work, list)
 }
 
 // The passes of the started form.
@@ -45,9 +44,9 @@ fn find_started(
     ensures { λ r. ⌜ Found (shapeOf p) (documentOf (now (parents .entry)) (now (labels .entry))) (In (now (starts .entry)))
         (now (list .entry)) (now (work .entry)) r (now (list .exit)) (now (work .exit)) ⌝ }
 {
-    passes::fit_nodes(p, parents, labels, 0, work);
-    passes::mark_starts(starts, work);
-    passes::place_nodes(p, parents, work, list)
+    marking::fit_nodes(p, parents, labels, 0, work);
+    marking::mark_starts(starts, work);
+    standing::place_nodes(p, parents, work, list)
 }
 
 // The answers of a pattern in a document: counted, and ascending at the front of `list`; the entries of `list` past them stay. Entries 2i and 2i + 1 of `work`
@@ -96,7 +95,7 @@ pub fn started(
         return Counted::Refused(r);
     }
     let n = parents.len();
-    if p.axis[0] != 0 || !passes::starts_right(starts, n) {
+    if p.axis[0] != 0 || !marking::starts_right(starts, n) {
         return Counted::Refused(Refusal::Start);
     }
     if list.len() < n || work.len() / 2 < n {

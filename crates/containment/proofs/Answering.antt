@@ -1,7 +1,7 @@
 -- The containment call's checks, from the verdict, the fresh label and the room. Assumes nothing.
 use Prim.Native.Nat.{ℕ, zero, suc, _≤_}
 use mathlib.Core.Path.{_≡_, refl}
-use mathlib.Core.Logic.{_⊎_, inl, inr, ⊎-elim, _≢_}
+use mathlib.Core.Logic.{inl, inr, ⊎-elim, _≢_}
 use native.Mathlib.Omega.{arith}
 use Rattle.tables.specs.Pattern.{Shape, shapeOf}
 use Rattle.tables.specs.Refusal.{Passes, Refuses}

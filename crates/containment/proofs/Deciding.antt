@@ -7,8 +7,7 @@ use lib.Dec.{eqb}
 use Rattle.tables.specs.Pattern.{Shape, rowsOf, ValidShape}
 use Rattle.tables.proofs.Rules.{shape-ordered}
 use Rattle.tables.proofs.Tests.{Tells, tells-eq, tells-and, tells-imp, tells-iff, imp, some, tells-some}
-use Rattle.placing.specs.Placement.{Takes, Goes}
-use Rattle.placing.proofs.Fit.{Task, Fit, Able, Whole, whole-able}
+use Rattle.placing.proofs.Fit.{Fit, Able, Whole, whole-able}
 use Rattle.placing.proofs.Probe.{Probe, Probes, canWhole, tells-whole}
 use Rattle.placing.proofs.Least.{greedy-least, best, best-greedy, best-fit, best-first, no-later-unique}
 use Rattle.placing.proofs.Sending.{takes, tells-takes, goes, tells-goes}

@@ -1,11 +1,6 @@
 // The smallest mapping of one pattern, B, into another, A, from the table of the steps of B that fit at each step of A (docs/RULES.md, "Containment").
-ghost use mathlib.Core.Path.{_≡_};
-ghost use mathlib.Core.Logic.{_↔_};
-ghost use Prim.Native.Nat.{ℕ, _≤_, _<_};
-ghost use lib.Dec.{T};
-ghost use lib.ListN.{getD};
-ghost use Rattle.tables.specs.Bits.{bit};
-ghost use Rattle.tables.specs.Pattern.{Shape, shapeOf, ValidPattern};
+ghost use Prim.Native.Nat.{_<_};
+ghost use Rattle.tables.specs.Pattern.{shapeOf, ValidPattern};
 ghost use Rattle.mappings.specs.Fits.{FitsIn, FitTable, Picks};
 ghost use Rattle.containment.specs.inner.Results.{Chosen};
 ghost use Rattle.containment.specs.Mapping.{BeginsIn};

@@ -1,6 +1,6 @@
 -- The groups of later child steps: how they are filled, and what they find. Assumes nothing.
-use Prim.Native.Nat.{ℕ, _+_, _/_, _%_, _^_, _<_}
-use mathlib.Core.Path.{_≡_, sym, ap, _∙_, subst}
+use Prim.Native.Nat.{ℕ, _+_, _^_, _<_}
+use mathlib.Core.Path.{_≡_, sym, _∙_, subst}
 use mathlib.Core.Logic.{_⊎_, inl, inr, ⊎-elim}
 use mathlib.Core.List.{List}
 use native.Mathlib.Omega.{arith}
@@ -12,7 +12,7 @@ use Rattle.tables.specs.Bits.{bit, Marks}
 use Rattle.tables.specs.Tree.{Child, child}
 use Rattle.tables.specs.Pattern.{Shape, ValidShape}
 use Rattle.tables.proofs.Bits.{bit-zero}
-use Rattle.tables.proofs.Marks.{marks-none, marks-to, marks-bits, marks-or, marks-and, marks-without}
+use Rattle.tables.proofs.Marks.{marks-none, marks-to, marks-bits, marks-or, marks-without}
 use Rattle.tables.proofs.Rules.{shape-ordered}
 use Rattle.tables.proofs.Trees.{below-lt}
 use Rattle.plan.specs.Steps.{without, Next}

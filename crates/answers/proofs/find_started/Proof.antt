@@ -7,7 +7,7 @@ use Rattle.tables.specs.Pattern.{shapeOf}
 use Rattle.tables.proofs.Rules.{document-ordered}
 use Rattle.tables.proofs.Trees.{parent-lt}
 use Rattle.placing.specs.Answer.{In}
-use Rattle.answers.specs.inner.Passes.{Ready}
+use Rattle.answers.specs.inner.Standing.{Ready}
 use Rattle.answers.proofs.AnswerList.{found-first}
 use Rattle.answers.proofs.Finding.{found-before, started-ready, started-first, started-rest}
 use borrow.Author.Needs.{needs}

@@ -1,6 +1,5 @@
 -- `plan::missing` meets its contract: the edges whose place is not found. Assumes nothing.
 use Rattle.plan.proofs.FitSteps.{marks-missing}
-use borrow.Author.Needs.{needs}
 use Rattle.plan.proofs.missing.Statement.{statement}
 use Rattle.plan.proofs.missing.Tie as tie
 

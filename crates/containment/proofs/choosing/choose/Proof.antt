@@ -12,7 +12,7 @@ use Rattle.tables.proofs.MarkTables.{parent-few}
 use Rattle.tables.proofs.Rules.{shape-ordered}
 use Rattle.tables.proofs.Trees.{parent-lt}
 use Rattle.placing.proofs.Fit.{able-ok}
-use Rattle.mappings.specs.Fits.{Picks, StepLists, ImageAt}
+use Rattle.mappings.specs.Fits.{Picks, ImageAt}
 use Rattle.containment.specs.Containment.{stepNo, mappingArray}
 use Rattle.mappings.proofs.StepFits.{mapTask}
 use Rattle.containment.proofs.Greedily.{mapping-one, mapping-more, mapping-at, Chose, chose-start, chose-more, image-there, image-found, chose-end}

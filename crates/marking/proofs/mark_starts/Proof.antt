@@ -1,0 +1,65 @@
+-- Each start node's second entry is set to 1, and no other entry. Assumes nothing.
+use Prim.Native.Nat.{ℕ, _+_, _*_, _-_, _<_, _≤_}
+use mathlib.Core.Path.{_≡_}
+use lib.ListN.{length, getD}
+use native.Mathlib.Omega.{arith}
+use native.Mathlib.Numerals.{add-one}
+use denote.Ref.{now}
+use mir.Syntax.{w16, w64}
+use mir.Val.{Fits}
+use Rattle.marking.proofs.Starts.{MarkedTo, marked-start, marked-more, marked-all, marked-others}
+use Rattle.marking.proofs.mark_starts.Statement.{statement}
+use Rattle.marking.proofs.mark_starts.Tie as tie
+
+abbrev Inv-loop : tie.InvT-loop
+Inv-loop starts work₀ m k₀ work k = (k ≤ m) × MarkedTo starts work₀ k work
+
+abbrev μ-loop : tie.MeasureT-loop
+μ-loop starts work₀ m k₀ work k = m - k
+
+-- what marking a node asks of a 16-bit number
+slots : (x : ℕ) → Fits w16 x → Fits w64 x × Fits w64 (2 * x) × Fits w64 (2 * x + 1) × Fits w64 ((2 * x + 1) * 8)
+slots x f = (omega arith, omega arith, omega arith, omega arith)
+
+-- the second entry of every start node is in the list
+room : (l : tie.At-loop Inv-loop μ-loop) (i : ℕ) → i < length (now (l .before .args .starts)) → 2 * getD (now (l .before .args .starts)) i 0 + 1 < length
+    (l .loop .work)
+room l i h = omega (arith, l .before .pre i h, l .loop .inv .1 .same-length)
+
+loop-holds : tie.Need-loop-holds Inv-loop μ-loop
+loop-holds c = (omega arith, marked-start _ _)
+
+cast-node : tie.Need-cast-node Inv-loop μ-loop
+cast-node c = slots _ (c .shared-slice-known .given _) .0
+
+mul-work : tie.Need-mul-work Inv-loop μ-loop
+mul-work c = slots _ (c .shared-slice-known .given _) .1
+
+add-work : tie.Need-add-work Inv-loop μ-loop
+add-work c = slots _ (c .shared-slice-known .given _) .2
+
+mul-work-2 : tie.Need-mul-work-2 Inv-loop μ-loop
+mul-work-2 c = slots _ (c .shared-slice-known .given _) .3
+
+slice-write-work : tie.Need-slice-write-work Inv-loop μ-loop
+slice-write-work c = room (c .before .before) _ (omega arith)
+
+loop-again : tie.Need-loop-again Inv-loop μ-loop
+loop-again c =
+    let l = c .before .before in
+    (omega arith, rw (add-one (l .loop .k)) (marked-more _ _ (l .loop .k) (l .loop .work) (l .loop .inv .1) (room l (l .loop .k) (omega arith))))
+
+same-length : tie.Need-same-length Inv-loop μ-loop
+same-length c = c .before .loop .inv .1 .same-length
+
+returns : tie.Need-returns Inv-loop μ-loop
+returns c =
+    let l = c .before in
+    let e : l .loop .k ≡ length (now (l .before .args .starts)) = omega arith in
+    let m : MarkedTo (now (l .before .args .starts)) (now (l .before .args .work)) (length (now (l .before .args .starts))) (l .loop .work) = rw e at
+    (l .loop .inv .1) in
+    (marked-all _ _ _ m, marked-others _ _ _ m)
+
+pub mark-starts-spec : {M : Type 1} → statement M
+mark-starts-spec = tie.close (tie.spec Inv-loop μ-loop loop-holds (λ c. omega arith) (λ c. omega arith) cast-node mul-work add-work mul-work-2
+    slice-write-work (λ c. omega arith) (λ c. omega arith) loop-again same-length returns)
