@@ -28,33 +28,6 @@ high-half bs h o = high-of-half (getD bs o 0) (getD bs (o + 1) 0) (h (o + 1))
 pub low-half : (bs : List ℕ) → Bytes bs → (o : ℕ) → low (half bs o) ≡ getD bs (o + 1) 0
 low-half bs h o = low-of-half (getD bs o 0) (getD bs (o + 1) 0) (h (o + 1))
 
--- the bytes of a 16-bit number are bytes
-pub high-byte : (x : ℕ) → x < 65536 → high x < 256
-high-byte x h = omega arith
-
-pub low-byte : (x : ℕ) → low x < 256
-low-byte x = omega arith
-
--- four bytes are bytes
-pub bytes-four : {a b c d : ℕ} → a < 256 → b < 256 → c < 256 → d < 256 → Bytes (a ∷ b ∷ c ∷ d ∷ [])
-bytes-four a b c d zero = a
-bytes-four a b c d (suc zero) = b
-bytes-four a b c d (suc (suc zero)) = c
-bytes-four a b c d (suc (suc (suc zero))) = d
-bytes-four a b c d (suc (suc (suc (suc k)))) = omega arith
-
-bytes-append : (xs ys : List ℕ) → Bytes xs → Bytes ys → Bytes (xs ++ ys)
-bytes-append [] ys h g k = g k
-bytes-append (x ∷ xs) ys h g zero = h 0
-bytes-append (x ∷ xs) ys h g (suc k) = bytes-append xs ys (λ i. h (suc i)) g k
-
--- a header of bytes followed by blocks of bytes
-pub bytes-blocks : (hs : List ℕ) (b : ℕ → List ℕ) (n : ℕ) → Bytes hs → ((k : ℕ) → k < n → Bytes (b k)) → Bytes (hs ++ blocks b n)
-unfolding blocks
-bytes-blocks hs b zero h g = rw append-nil h
-bytes-blocks hs b (suc n) h g =
-    rw (← append-assoc) (bytes-append (hs ++ blocks b n) (b n) (bytes-blocks hs b n h (λ k l. g k (omega arith))) (g n (omega arith)))
-
 -- how long a header with n blocks of four is
 pub packet-length : (hs : List ℕ) (b : ℕ → List ℕ) (n : ℕ) → ((k : ℕ) → length (b k) ≡ 4) → length (hs ++ blocks b n) ≡ length hs + 4 * n
 packet-length hs b n w = length-append hs (blocks b n) ∙ omega (arith, blocks-length b 4 n (λ k l. w k))

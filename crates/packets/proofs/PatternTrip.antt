@@ -1,11 +1,9 @@
 -- Pattern packets there and back: what is written reads as the same pattern, what is read writes as the same bytes, and no second result
 -- fits either call. Assumes nothing.
 use Prim.Native.Nat.{ℕ, _+_, _*_, _/_, _<_}
-use mathlib.Core.Path.{_≡_, refl, sym, ap, ap₂, _∙_}
-use mathlib.Core.Logic.{⊎-elim}
+use mathlib.Core.Path.{_≡_, refl, sym, ap₂, _∙_}
 use mathlib.Core.List.{List, [], _∷_}
 use native.Mathlib.Omega.{arith}
-use native.Mathlib.Nat.{eq-zero-or-pos}
 use lib.ListN.{length, getD}
 use Rattle.tables.specs.Column.{blocks}
 use Rattle.tables.specs.Pattern.{Shape, shapeOf, patternOf, ValidShape, ValidPattern, Clean}
@@ -13,8 +11,7 @@ use Rattle.tables.specs.Refusal.{Check, Passes}
 use Rattle.tables.specs.declared.Pattern.{Pattern}
 use Rattle.tables.specs.declared.Counted.{Counted}
 use Rattle.tables.proofs.Columns.{blocks-ext}
-use Rattle.tables.proofs.Trees.{parent-lt}
-use Rattle.tables.proofs.Rules.{Agree, shape-ordered, pattern-of-shape, agree-sym, agree-trans, pattern-of-agree}
+use Rattle.tables.proofs.Rules.{Agree, pattern-of-shape, agree-sym, agree-trans, pattern-of-agree}
 use Rattle.tables.proofs.Refusals.{decided-unique, counted-unique}
 use Rattle.packets.specs.Bytes.{Bytes, high, low, half}
 use Rattle.packets.specs.PatternPacket.{
@@ -35,10 +32,6 @@ use Rattle.packets.proofs.Halves.{
   half-of-bytes,
   high-half,
   low-half,
-  high-byte,
-  low-byte,
-  bytes-four,
-  bytes-blocks,
   packet-length,
   packet-at,
   packet-half,
@@ -65,23 +58,6 @@ pattern-packet-length A = packet-length (head A) (stepBytes A) (A .tree .size) (
 step-at : (A : Shape) (s r i : ℕ) → s < A .tree .size → r < 4 → i ≡ 4 + 4 * s + r → getD (patternPacket A) i 0 ≡ getD (stepBytes A s) r 0
 unfolding patternPacket
 step-at A s r i = packet-at (head A) (stepBytes A) (A .tree .size) s r i (step-four A)
-
--- a parent is a byte: step 0's is 255, the others are steps
-parent-byte : {A : Shape} → ValidShape A → (s : ℕ) → s < A .tree .size → A .tree .parent s < 256
-parent-byte {A} v s l = ⊎-elim
-    (λ e. omega (arith, ap (A .tree .parent) e, v .steps 0 (v .some) .hangs))
-    (λ p. omega (arith, parent-lt (shape-ordered v) s p l, v .few))
-    (eq-zero-or-pos s)
-
-axis-byte : {A : Shape} → ValidShape A → (s : ℕ) → s < A .tree .size → A .axis s < 256
-axis-byte v s l = ⊎-elim (λ e. omega arith) (λ e. omega arith) (v .steps s l .axis)
-
--- the packet of a valid pattern is made of bytes
-pub pattern-packet-bytes : {A : Shape} → ValidShape A → Bytes (patternPacket A)
-unfolding patternPacket stepBytes
-pattern-packet-bytes {A} v = bytes-blocks (head A) (stepBytes A) (A .tree .size)
-    (bytes-four (omega arith) (omega (arith, v .few)) (omega arith) (omega (arith, v .output, v .few)))
-    (λ s l. bytes-four (parent-byte v s l) (axis-byte v s l) (high-byte (A .label s) (omega (arith, v .steps s l .label .most))) (low-byte (A .label s)))
 
 packet-size : (A : Shape) → packetShape (patternPacket A) .tree .size ≡ A .tree .size
 unfolding packetShape patternPacket

@@ -4,10 +4,9 @@ use mathlib.Core.Path.{_≡_, refl, sym, ap, ap₂, _∙_, subst}
 use mathlib.Core.List.{List, [], _∷_, _++_, append-assoc}
 use native.Mathlib.Omega.{arith}
 use native.Mathlib.Nat.{zero-mul, suc-mul}
-use native.Mathlib.Decide.{decLt}
 use native.Mathlib.Numerals.{add-one}
-use lib.ListN.{length, getD, set, take, drop, replicate, length-append, length-drop, length-replicate, getD-replicate, List·getD-append, List·getD-eq-default}
-use lib.Seq.{getD-append-add, getD-drop, drop-cons, drop-drop, drop-append-add, take-at, set-at, ext-getD}
+use lib.ListN.{length, getD, set, take, drop, replicate, length-append, length-drop, length-replicate, List·getD-append}
+use lib.Seq.{getD-append-add, drop-cons, drop-drop, drop-append-add, take-at, set-at, ext-getD}
 use Rattle.tables.specs.Column.{blocks, column, padded}
 use Rattle.tables.proofs.Choice.{below-or-at}
 
@@ -75,20 +74,6 @@ padded-next f xs k v l e g = rw g (column-next f (replicate 64 0) k v l e)
 
 pub padded-at : (f : ℕ → ℕ) (n k : ℕ) → k < n → getD (padded f n) k 0 ≡ f k
 padded-at f n k l = List·getD-append (column f n) (drop n (replicate 64 0)) 0 k (omega (arith, column-length f n)) ∙ column-at f n k l
-
-zeros-at : (k : ℕ) → getD {A = ℕ} (replicate 64 0) k 0 ≡ 0
-zeros-at k = go (decLt k 64)
-  where
-    go : Dec (k < 64) → getD {A = ℕ} (replicate 64 0) k 0 ≡ 0
-    go (yes h) = getD-replicate 64 k 0 0 h
-    go (no h) = List·getD-eq-default (replicate 64 0) 0 {n = k} (omega (arith, length-replicate {A = ℕ} 64 0))
-
-pub padded-past : (f : ℕ → ℕ) (n k : ℕ) → n ≤ k → getD (padded f n) k 0 ≡ 0
-padded-past f n k l =
-    ap (λ i. getD (column f n ++ drop n (replicate 64 0)) i 0) (omega (arith, column-length f n))
-    ∙ getD-append-add (column f n) (drop n (replicate 64 0)) (k - n) 0
-    ∙ getD-drop n (replicate 64 0) (k - n) 0
-    ∙ zeros-at (n + (k - n))
 
 pub padded-length : (f : ℕ → ℕ) (n : ℕ) → n ≤ 64 → length (padded f n) ≡ 64
 padded-length f n l =

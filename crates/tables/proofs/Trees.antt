@@ -52,9 +52,6 @@ below-up {T} {s} {u} (under {m = m} c b) = (record { late = c .late; here = c .h
 pub below-parent : {T : Tree} {s q u : ℕ} → Below T s u → Child T q u → From T s q
 below-parent {T} {s} {q} {u} b c = subst (From T s) (c .up) (below-up b .1)
 
-pub below-child : {T : Tree} {s u : ℕ} → Below T s u → Child T (T .parent u) u
-below-child b = below-up b .0
-
 pub below-here : {T : Tree} {s u : ℕ} → Below T s u → u < T .size
 below-here b = below-up b .0 .here
 

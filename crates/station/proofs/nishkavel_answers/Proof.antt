@@ -4,11 +4,6 @@ use borrow.Author.Needs.{needs}
 use Rattle.station.proofs.nishkavel_answers.Statement.{statement}
 use Rattle.station.proofs.nishkavel_answers.Tie as tie
 
-number-of-requires : tie.Need-number-of-requires
-number-of-requires c κs = answers-small _ _ _ _ _ (c .before .before .answer-packets .ensures)
-
-returns : tie.Need-returns
-returns c = search needs
-
 pub nishkavel-answers-spec : {M : Type 1} → statement M
-nishkavel-answers-spec = tie.close (tie.spec (λ c κs. search needs) number-of-requires (λ c. search needs) returns)
+nishkavel-answers-spec = tie.close (tie.spec (λ c κs. search needs) (λ c κs. answers-small _ _ _ _ _ (c .before .before .answer-packets .ensures))
+    (λ c. search needs) (λ c. search needs))

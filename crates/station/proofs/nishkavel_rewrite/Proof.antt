@@ -4,11 +4,6 @@ use borrow.Author.Needs.{needs}
 use Rattle.station.proofs.nishkavel_rewrite.Statement.{statement}
 use Rattle.station.proofs.nishkavel_rewrite.Tie as tie
 
-number-of-requires : tie.Need-number-of-requires
-number-of-requires c κs = rewrites-small _ _ _ _ _ (c .before .before .rewrite-packets .ensures)
-
-returns : tie.Need-returns
-returns c = search needs
-
 pub nishkavel-rewrite-spec : {M : Type 1} → statement M
-nishkavel-rewrite-spec = tie.close (tie.spec (λ c κs. search needs) number-of-requires (λ c. search needs) returns)
+nishkavel-rewrite-spec = tie.close (tie.spec (λ c κs. search needs) (λ c κs. rewrites-small _ _ _ _ _ (c .before .before .rewrite-packets .ensures))
+    (λ c. search needs) (λ c. search needs))
