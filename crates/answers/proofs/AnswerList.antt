@@ -61,8 +61,7 @@ found-first A d First Other va e list₀ work₀ c list work h = record {
 -- the second entries before the pass mark step 0 at the start nodes
 pub ready-starts : (A : Shape) (d : Document) (work : List ℕ) → Ready A d work → (i : ℕ) → i < nodeCount d → Marks (getD work (2 * i + 1) 0)
     (λ s. (s ≡ 0) × Marked work i)
-ready-starts A d work r i l = ⊎-elim
-    (λ e. subst (λ (x : ℕ). Marks x (λ s. (s ≡ 0) × Marked work i)) (sym e)
+ready-starts A d work r i l = ⊎-elim (λ e. subst (λ (x : ℕ). Marks x (λ s. (s ≡ 0) × Marked work i)) (sym e)
     (marks-to 1 (λ s. s ≡ 0) (λ s. (s ≡ 0) × Marked work i) (λ s z. (z, e)) (λ s z. z .0) (marks-one 0)))
     (λ e. subst (λ (x : ℕ). Marks x (λ s. (s ≡ 0) × Marked work i)) (sym e) (marks-none (λ s. (s ≡ 0) × Marked work i) (λ s w. omega (arith, w .1))))
     (r .flags i l)
@@ -93,8 +92,7 @@ module _ (A : Shape) (d : Document) (First : ℕ → Type 0) (va : ValidShape A)
     answers = h .answers;
     lists = lists-iff (h .lists) (λ i. (
       λ q. (omega (arith, q .0), q .1),
-      λ q. below-or-at (q .0) (λ l. (l, q .1))
-          (λ e. absurd (n (subst (Started First A d) e (q .1)))),
+      λ q. below-or-at (q .0) (λ l. (l, q .1)) (λ e. absurd (n (subst (Started First A d) e (q .1)))),
     ));
     count = h .count;
     few = omega (arith, h .few);

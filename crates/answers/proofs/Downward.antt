@@ -65,8 +65,7 @@ module _ (A : Shape) (d : Document) (First : ℕ → Type 0) (va : ValidShape A)
     Taken s = FitsAt A d i s × (Over i s ⊎ ((s ≡ 0) × First i))
 
     taken-placed : (t : ℕ) → Taken t → PlacedAt A d First i t
-    taken-placed t h = ⊎-elim
-        (λ o. let w = o .2 in ⊎-elim (λ x. placed-down i (o .0) (w .0) t (w .1) (x .1) (rw (x .0) (o .1, refl)) (h .0))
+    taken-placed t h = ⊎-elim (λ o. let w = o .2 in ⊎-elim (λ x. placed-down i (o .0) (w .0) t (w .1) (x .1) (rw (x .0) (o .1, refl)) (h .0))
         (λ x. placed-down i (x .1 .0) (w .0) t (w .1) (x .1 .2) (rw (x .0) (from-child (x .1 .1) (o .1))) (h .0)) (w .2))
         (λ w. subst (PlacedAt A d First i) (sym (w .0)) (first-placed i (subst (FitsAt A d i) (w .0) (h .0)) (w .1))) (h .1)
 
@@ -77,8 +76,7 @@ module _ (A : Shape) (d : Document) (First : ℕ → Type 0) (va : ValidShape A)
     placed-taken : (t : ℕ) → PlacedAt A d First i t → Taken t
     placed-taken t h = (
       placed-fits i t h,
-      ⊎-elim
-          (λ z. inr (z, placed-first i (subst (PlacedAt A d First i) z h)))
+      ⊎-elim (λ z. inr (z, placed-first i (subst (PlacedAt A d First i) z h)))
           (λ q. let k = hangs t q (h .0) in let u = placed-up i (A .tree .parent t) t k h in inl
           (above t (A .tree .parent t) (u .0) (A .axis t) refl (h .0) k (u .2) (u .1)))
           (eq-zero-or-pos t),
@@ -87,24 +85,19 @@ module _ (A : Shape) (d : Document) (First : ℕ → Type 0) (va : ValidShape A)
     -- what the node's children may take: child steps of those that stand at it, and what was allowed from further above
     module _ (whole over : ℕ) (mw : Marks whole (PlacedAt A d First i)) (mo : Marks over (Over i)) where
       passed-allowed : (t : ℕ) → PassedOn A whole over t → Allowed A d First i t
-      passed-allowed t h = ⊎-elim
-          (λ w. (
-            w .0,
-            w .2,
-            ⊎-elim (λ e. inl (e, mw .only (w .0) (w .1))) (λ e. inr (e, (i, inl refl, mw .only (w .0) (w .1))))
-                (va .steps t (w .2 .here) .axis),
-          ))
+      passed-allowed t h = ⊎-elim (λ w. (
+        w .0,
+        w .2,
+        ⊎-elim (λ e. inl (e, mw .only (w .0) (w .1))) (λ e. inr (e, (i, inl refl, mw .only (w .0) (w .1)))) (va .steps t (w .2 .here) .axis),
+      ))
           (λ w. let o = mo .only t (w .0) in (
             o .2 .0,
             o .2 .1,
-            ⊎-elim (λ x. absurd (omega (arith, x .0, w .1 .2))) (λ x. inr (x .0, (x .1 .0, inr (from-child (x .1 .1) (o .1)), x .1 .2)))
-                (o .2 .2),
+            ⊎-elim (λ x. absurd (omega (arith, x .0, w .1 .2))) (λ x. inr (x .0, (x .1 .0, inr (from-child (x .1 .1) (o .1)), x .1 .2))) (o .2 .2),
           )) h
 
       allowed-passed : (t : ℕ) → Allowed A d First i t → PassedOn A whole over t
-      allowed-passed t h = ⊎-elim
-          (λ x. inl (h .0, mw .put (h .0) (x .1), h .1))
-          (λ x. ⊎-elim
+      allowed-passed t h = ⊎-elim (λ x. inl (h .0, mw .put (h .0) (x .1), h .1)) (λ x. ⊎-elim
           (λ e. inl (h .0, mw .put (h .0) (subst (λ (y : ℕ). PlacedAt A d First y (h .0)) e (x .1 .2)), h .1))
           (λ b. let u = below-up b in
           inr (mo .put t (nodesOf d .tree .parent i, u .0, (h .0, h .1, inr (x .0, (x .1 .0, u .1, x .1 .2)))), (h .1 .late, h .1 .here, x .0))) (x .1 .1))

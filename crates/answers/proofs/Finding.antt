@@ -30,8 +30,7 @@ found-before A d First list₀ work₀ w c list work e r h = record {
     same-length = h .working .same-length ∙ e;
     fits = h .working .fits;
     placed = h .working .placed;
-    rest = λ q l. h .working .rest q l ∙ r q
-        l;
+    rest = λ q l. h .working .rest q l ∙ r q l;
   };
 }
 

@@ -67,8 +67,7 @@ module _ (A : Shape) (d : Document) (first : ℕ → Bool) (First : ℕ → Type
   -- what is computed is the list of the answers
   pub answers-of : Lists (Started First A d) (answersOf A d first)
   unfolding answersOf
-  answers-of = lists-iff
-      (lists-passing (nodeCount d) (λ i. canWhole (A .tree) (probe A (nodesOf d) first) (A .output) i) (Started First A d)
+  answers-of = lists-iff (lists-passing (nodeCount d) (λ i. canWhole (A .tree) (probe A (nodesOf d) first) (A .output) i) (Started First A d)
       (λ i. tells-reaches A (nodesOf d) first First (shape-ordered va) (document-ordered vd) tells-first (A .output) i (va .output)))
       (λ i. (λ q. q .1, λ a. (subst (λ (x : ℕ). x < nodeCount d) (a .at) (a .sends .takes (A .output) (va .output) .here), a)))
 

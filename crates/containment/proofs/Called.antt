@@ -33,8 +33,7 @@ module _ (A B : Pattern) (parents₀ labels₀ : List ℕ) where
   -- where the call says contained, A is contained in B
   pub call-contained : (r : ContainmentAnswer) (parents labels : List ℕ) → DecidesContainment A B parents₀ labels₀ r parents labels
       → r .answer ≡ containment.Contained → Contained (shapeOf A) (shapeOf B)
-  call-contained r parents labels h e =
-      subst (λ (a : Containment). AnswersContainment A B parents₀ labels₀ a (r .mapping) parents labels) e h .1 .contained
+  call-contained r parents labels h e = subst (λ (a : Containment). AnswersContainment A B parents₀ labels₀ a (r .mapping) parents labels) e h .1 .contained
 
   -- where it says apart, the lists begin with a document that shows it
   pub call-apart : (r : ContainmentAnswer) (parents labels : List ℕ) (m : ℕ) (i : NodeNo) → DecidesContainment A B parents₀ labels₀ r parents labels

@@ -115,8 +115,7 @@ module _ {A B : Shape} {φ : ℕ} {W : Rows} (ax : Axes A) (v : Ordered (A .tree
       takes = λ t l. record {
         here = small t l;
         fits = record {
-          same = sym (w .own-label (shown t) (small t l)) ∙ ap (W .label) (sym (at t l)) ∙ p .takes t l
-              .fits .same;
+          same = sym (w .own-label (shown t) (small t l)) ∙ ap (W .label) (sym (at t l)) ∙ p .takes t l .fits .same;
         };
       };
       edge = λ t q c. go t q c (B .axis t) (p .edge t q c);

@@ -64,8 +64,7 @@ module _ (A B : Shape) (l : ℕ) (va : ValidShape A) (vb : ValidShape B) (f : Fr
   witness-complete a =
       let w : Witness A l (nodesOf (witnessOf A l)) = rows A l va (f .label) in (
         shown (axes va) (shape-ordered va) w unused (a .sends),
-        complete (axes va) (shape-ordered va) w unused (a .sends) (shape-ordered vb) (vb .output)
-            (a .first) (a .at),
+        complete (axes va) (shape-ordered va) w unused (a .sends) (shape-ordered vb) (vb .output) (a .first) (a .at),
       )
 
   -- where B does not map into A, the witness shows the difference

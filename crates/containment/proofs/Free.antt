@@ -28,13 +28,11 @@ free (suc n) lab = go (free n swapped) (λ s e. sel-yes (ℕ-discrete (lab s) (s
           label = suc (suc n);
           from = omega arith;
           to = omega arith;
-          unused = λ s l h.
-              below-or-at l (λ m. w .unused s m (y s h ∙ e)) (λ k. omega (arith, w .to, ap lab k));
+          unused = λ s l h. below-or-at l (λ m. w .unused s m (y s h ∙ e)) (λ k. omega (arith, w .to, ap lab k));
         }
         pick (no e) = record {
           label = w .label;
           from = w .from;
           to = omega (arith, w .to);
-          unused = λ s l h.
-              below-or-at l (λ m. w .unused s m (z s (λ k. omega (arith, w .to)) ∙ h)) (λ k. e (sym (ap lab k) ∙ h));
+          unused = λ s l h. below-or-at l (λ m. w .unused s m (z s (λ k. omega (arith, w .to)) ∙ h)) (λ k. e (sym (ap lab k) ∙ h));
         }

@@ -133,8 +133,7 @@ module _ (B A : Shape) (vb : ValidShape B) (va : ValidShape A) where
           | no n ↦ omega (
             arith,
             h .next u o j (omega arith) c (subst (λ (y : ℕ). Goes (rowsOf A) (B .axis u) y j) (old o (earlier u o l c)) g) a,
-            old u
-                (omega arith),
+            old u (omega arith),
           )
         ];
       }

@@ -33,8 +33,7 @@ module _ {A : Shape} {φ : ℕ} {W : Rows} (ax : Axes A) (v : Ordered (A .tree))
           let upper : Child (W .tree) (ownNode A q) i = record {
             late = omega (arith, past s, c .late);
             here = omega (arith, inside s (c .here));
-            up = w
-                .new-up s q i c e d;
+            up = w .new-up s q i c e d;
           } in
           let lower : Child (W .tree) i (ownNode A s) = record { late = omega (arith, past s, c .late); here = inside s (c .here); up = refl } in
           rw e (under lower (child upper))

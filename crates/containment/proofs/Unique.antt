@@ -44,8 +44,7 @@ module _ (A B : Pattern) (parents₀ labels₀ parents labels parents′ labels�
         ap₂ containment.Apart u w,
         z,
         h .parent-list ∙ ap₂ (λ d i. d .parents ++ drop i parents₀) p u ∙ sym (k .parent-list),
-        h .label-list ∙ ap₂
-            (λ d i. d .labels ++ drop i labels₀) p u ∙ sym (k .label-list),
+        h .label-list ∙ ap₂ (λ d i. d .labels ++ drop i labels₀) p u ∙ sym (k .label-list),
       )
 
   mixed : (r : Refusal) → Refuses (containmentChecks A B (length parents₀) (length labels₀)) r → Passes
@@ -66,8 +65,7 @@ module _ (A B : Pattern) (parents₀ labels₀ parents labels parents′ labels�
   answers-unique (containment.Refused r) (containment.Refused q) m n h k = (
     ap containment.Refused (refuses-unique (containmentChecks A B (length parents₀) (length labels₀)) r q (h .0) (k .0)),
     h .1 ∙ sym (k .1),
-    h .2 ∙ sym
-        (k .2),
+    h .2 ∙ sym (k .2),
     h .3 ∙ sym (k .3),
   )
 

@@ -35,8 +35,7 @@ module _ (A B : Shape) (va : ValidShape A) (vb : ValidShape B) where
   pub first-picked : (fit : List ℕ) (r : ℕ) → FitTable B A fit
       → Picks (λ j. ((j < A .tree .size) × (B .axis 0 ≡ 0 → (j ≡ 0) × (A .axis 0 ≡ 0))) × (bit (getD fit j 0) 0 ≡ 1)) r
       → Picks (λ j. BeginsIn B A j × FitsIn B A j 0) r
-  first-picked fit r table p = pick-to
-      (λ j w. (w .0 .1, table j (w .0 .0) .only 0 (w .1)))
+  first-picked fit r table p = pick-to (λ j w. (w .0 .1, table j (w .0 .0) .only 0 (w .1)))
       (λ j w. ((fits-here j 0 (w .1), w .0), table j (fits-here j 0 (w .1)) .put 0 (w .1)))
       p
 

@@ -41,8 +41,7 @@ test d (apart A B l w i) =
 test d (equal A B) = isPattern (shapeOf A) && (isPattern (shapeOf B) && (mapsInto (shapeOf B) (shapeOf A) && mapsInto (shapeOf A) (shapeOf B)))
 test d (handed Q U C) =
     isPattern (shapeOf Q) && (isPattern (shapeOf U) && (ltb (Q .count) 33 && (ltb (U .count) 33 && (rewritable Q U && samePattern C (candidateOf Q U)))))
-test d (started C ss xs) =
-    isPattern (shapeOf C) && (eqb (shapeOf C .axis 0) 0 && (isStartList d ss && sameList (answersOf (shapeOf C) d (isIn ss)) xs))
+test d (started C ss xs) = isPattern (shapeOf C) && (eqb (shapeOf C .axis 0) 0 && (isStartList d ss && sameList (answersOf (shapeOf C) d (isIn ss)) xs))
 test d (nothing Q U) = isPattern (shapeOf Q) && (isPattern (shapeOf U) && (ltb (Q .count) 33 && (ltb (U .count) 33 && not (rewritable Q U))))
 
 unfoldable pub testAll : Document → List Fact → Bool

@@ -21,22 +21,8 @@ use Rattle.rewriting.specs.Candidate.{pathTo, mainPath, cutStep}
 use Rattle.rewriting.proofs.Cuts.{howMany, cutShape}
 use Rattle.rewriting.proofs.Deciding.{candidateOf, hasCandidate, joinEqual, rewritable}
 use Rattle.flightline.specs.Fact.{pattern, AllHold}
-use Rattle.flightline.specs.Table.{
-  line,
-  view,
-  posed,
-  controlled,
-  topStrip,
-  nestedStrips,
-  framePosed,
-  linePoses,
-  lineStrips,
-  stripPoses,
-  twoFrames,
-  oneFrame,
-  viewWitness,
-  cases,
-}
+use Rattle.flightline.specs.Table.{line, view, posed, controlled, topStrip, nestedStrips, framePosed, linePoses, lineStrips, stripPoses, twoFrames}
+use Rattle.flightline.specs.Table.{oneFrame, viewWitness, cases}
 use Rattle.flightline.proofs.Checking.{test, testAll, test-all}
 
 line-valid : ValidDocument line

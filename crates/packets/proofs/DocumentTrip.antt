@@ -12,19 +12,8 @@ use Rattle.tables.specs.declared.Counted.{Counted}
 use Rattle.tables.proofs.Columns.{blocks-ext, column-length, column-at, column-ext, column-self}
 use Rattle.tables.proofs.Refusals.{counted-unique}
 use Rattle.packets.specs.Bytes.{Bytes, high, low, half}
-use Rattle.packets.specs.DocumentPacket.{
-  nodeBytes,
-  documentPacket,
-  nodesIn,
-  packetDocument,
-  documentChecks,
-  nodeChecks,
-  ReadsBy,
-  ReadsNodes,
-  ReadsDocument,
-  putChecks,
-  WritesDocument,
-}
+use Rattle.packets.specs.DocumentPacket.{nodeBytes, documentPacket, nodesIn, packetDocument, documentChecks, nodeChecks, ReadsBy, ReadsNodes}
+use Rattle.packets.specs.DocumentPacket.{ReadsDocument, putChecks, WritesDocument}
 use Rattle.packets.specs.Header.{Sized}
 use Rattle.packets.proofs.Halves.{half-of-bytes, high-half, low-half, packet-length, packet-half, four, packet-self}
 use Rattle.tables.proofs.Outcomes.{counted-both}
@@ -75,8 +64,7 @@ document-packet-sized {d} v = record {
   some = v .some;
   few = v .few;
   field = half-of-bytes (4 * nodeCount d) ∙ omega arith;
-  present = document-packet-length d
-      ∙ omega arith;
+  present = document-packet-length d ∙ omega arith;
 }
 
 -- the packet of a valid document passes every check, where both lists have room

@@ -14,30 +14,12 @@ use Rattle.tables.proofs.Columns.{blocks-ext}
 use Rattle.tables.proofs.Rules.{Agree, pattern-of-shape, agree-sym, agree-trans, pattern-of-agree}
 use Rattle.tables.proofs.Refusals.{decided-unique, counted-unique}
 use Rattle.packets.specs.Bytes.{Bytes, high, low, half}
-use Rattle.packets.specs.PatternPacket.{
-  patternLength,
-  stepBytes,
-  patternPacket,
-  packetShape,
-  packetPattern,
-  patternChecks,
-  ReadsPattern,
-  writeChecks,
-  WritesPattern,
-}
+use Rattle.packets.specs.PatternPacket.{patternLength, stepBytes, patternPacket, packetShape, packetPattern, patternChecks, ReadsPattern, writeChecks}
+use Rattle.packets.specs.PatternPacket.{WritesPattern}
 use Rattle.packets.specs.Header.{Sized}
 use Rattle.packets.specs.declared.PatternRead.{PatternRead}
 use Rattle.packets.proofs.Views.{Read}
-use Rattle.packets.proofs.Halves.{
-  half-of-bytes,
-  high-half,
-  low-half,
-  packet-length,
-  packet-at,
-  packet-half,
-  four,
-  packet-self,
-}
+use Rattle.packets.proofs.Halves.{half-of-bytes, high-half, low-half, packet-length, packet-at, packet-half, four, packet-self}
 use Rattle.tables.proofs.Agreement.{valid-agree}
 use Rattle.tables.proofs.Outcomes.{decided-both, counted-both}
 
@@ -71,8 +53,7 @@ packet-shape-of-packet {A} v = record {
   output = refl;
   parent = λ s l. step-at A s 0 (4 + 4 * s) (omega (arith, packet-size A)) (omega arith) (omega arith);
   axis = λ s l. step-at A s 1 (5 + 4 * s) (omega (arith, packet-size A)) (omega arith) (omega arith);
-  label = λ s l.
-      packet-half (head A) (stepBytes A) (A .tree .size) s 2 (6 + 4 * s) (step-four A) (omega (arith, packet-size A)) (omega arith) (omega arith)
+  label = λ s l. packet-half (head A) (stepBytes A) (A .tree .size) s 2 (6 + 4 * s) (step-four A) (omega (arith, packet-size A)) (omega arith) (omega arith)
       ∙ half-of-bytes (A .label s);
 }
 
@@ -130,8 +111,7 @@ packet-of-shape bs h n z w =
 
 -- bytes that pass are the packet of the pattern that they are read as
 pub read-then-written : (bs : List ℕ) → Bytes bs → Read bs → patternPacket (shapeOf (packetPattern bs)) ≡ bs
-read-then-written bs h r =
-    pattern-packet-agree (pattern-of-shape (packetShape bs)) ∙ packet-of-shape bs h (r .head .rows) (r .head .sized) (r .head .version)
+read-then-written bs h r = pattern-packet-agree (pattern-of-shape (packetShape bs)) ∙ packet-of-shape bs h (r .head .rows) (r .head .sized) (r .head .version)
 
 -- no second result of reading fits
 pub reads-pattern-unique : (bs : List ℕ) (r q : PatternRead) → ReadsPattern bs r → ReadsPattern bs q → r ≡ q

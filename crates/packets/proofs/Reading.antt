@@ -26,8 +26,7 @@ Headed bs extra most r = CountedBy (headChecks bs extra most) r (λ n. n ≡ hal
 pub document-fronts : (bs xs ys d e : List ℕ) (n : ℕ) → n ≡ nodesIn bs → xs ≡ packetDocument bs .parents ++ d → ys ≡ packetDocument bs .labels ++ e
     → documentOf (take n xs) (take n ys) ≡ packetDocument bs
 unfolding packetDocument
-document-fronts bs xs ys d e n h f g =
-    ap₂ (λ x y. documentOf x y) (front (λ i. half bs (3 + 4 * i)) xs d f) (front (λ i. half bs (5 + 4 * i)) ys e g)
+document-fronts bs xs ys d e n h f g = ap₂ (λ x y. documentOf x y) (front (λ i. half bs (3 + 4 * i)) xs d f) (front (λ i. half bs (5 + 4 * i)) ys e g)
   where
     front : (f : ℕ → ℕ) (xs d : List ℕ) → xs ≡ column f (nodesIn bs) ++ d → take n xs ≡ column f (nodesIn bs)
     front f xs d p = ap (take n) p ∙ take-at (column f (nodesIn bs)) d n (column-length f (nodesIn bs) ∙ sym h)

@@ -49,5 +49,4 @@ module _ (b : ℕ → List ℕ) (h w : ℕ) (d : List ℕ) where
 
   -- all rows after a header that was written over x
   pub rows-all : (hs x out : List ℕ) (k : ℕ) → length hs ≡ h → d ≡ hs ++ drop h x → RowsPut b h w d k out → out ≡ hs ++ blocks b k ++ drop (h + w * k) x
-  rows-all hs x out k n e r =
-      r .is ∙ ap (λ y. take h y ++ blocks b k ++ drop (h + w * k) y) e ∙ put-block hs (blocks b k) x h (w * k) n
+  rows-all hs x out k n e r = r .is ∙ ap (λ y. take h y ++ blocks b k ++ drop (h + w * k) y) e ∙ put-block hs (blocks b k) x h (w * k) n

@@ -162,8 +162,7 @@ module _ (P : Task) where
           by = p .0;
           fit = record {
             ok = λ u l. p .1 .ok u (from-root v u l);
-            edge = λ u q c. p .1 .edge u q c
-                (from-root v q (omega (arith, below-lt v (child c), c .here)));
+            edge = λ u q c. p .1 .edge u q c (from-root v q (omega (arith, below-lt v (child c), c .here)));
           };
           start = subst Start (sym (p .1 .at)) st;
           at = p .1 .at;
@@ -210,5 +209,4 @@ module _ (P : Task) where
             w) ∙ ap f y ∙ h .at))
             (sym (into s (inl refl) ∙ p .1 .at)) e)
         edge u r d (no z) (yes b) = subst₂ (P .edge u) (sym (into r (below-parent b d))) (sym (into u (inr b))) (p .1 .edge u r d (below-parent b d))
-        edge u r d (no z) (no b) =
-            subst₂ (P .edge u) (sym (past r (λ w. b (from-child w d)))) (sym (past u (λ w. ⊎-elim z b w))) (h .fit .edge u r d)
+        edge u r d (no z) (no b) = subst₂ (P .edge u) (sym (past r (λ w. b (from-child w d)))) (sym (past u (λ w. ⊎-elim z b w))) (h .fit .edge u r d)

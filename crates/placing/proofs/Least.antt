@@ -40,8 +40,7 @@ module _ (P : Task) (First : ℕ → Type 0) (v : Ordered (P .tree)) (f g : ℕ 
   can t l = whole-able P First v t (g t) l (record { by = g; fit = k; start = st; at = refl })
 
   at-most : (t : ℕ) → t < P .tree .size → ((u : ℕ) → u < t → f u ≡ g u) → f t ≤ g t
-  at-most t l e = ⊎-elim
-      (λ z. subst (λ (x : ℕ). f x ≤ g x) (sym z) (h .first (g 0) st (can 0 (v .some))))
+  at-most t l e = ⊎-elim (λ z. subst (λ (x : ℕ). f x ≤ g x) (sym z) (h .first (g 0) st (can 0 (v .some))))
       (λ p. let c : Child (P .tree) (P .tree .parent t) t = record { late = p; here = l; up = refl } in
       h .next t (P .tree .parent t) (g t) c (subst (λ (x : ℕ). P .edge t x (g t)) (sym (e (P .tree .parent t) (below-lt v (child c))))
       (k .edge t (P .tree .parent t) c)) (can t l))
@@ -155,9 +154,7 @@ module _ (R : Probe) (P : Task) (First : ℕ → Type 0) (p : Probes R P First) 
   module _ (j : ℕ) (f : First j) (a : Able P 0 j) where
     best-able-to : (k t : ℕ) → t ≤ k → t < P .tree .size → Able P t (at t)
     best-able-to zero t l m = subst (λ (x : ℕ). Able P x (at x)) {x = 0} (omega arith) (at-zero j f a .0 .1)
-    best-able-to (suc k) t l m = ⊎-elim
-        (λ z. best-able-to k t (omega arith) m)
-        (λ w. let q : ℕ = P .tree .parent t in
+    best-able-to (suc k) t l m = ⊎-elim (λ z. best-able-to k t (omega arith) m) (λ w. let q : ℕ = P .tree .parent t in
         let c : Child (P .tree) q t = record { late = w; here = m; up = refl } in
         let d : q < t = below-lt (p .ordered) (child c) in
         let n = able-next P (best-able-to k q (omega arith) (omega arith)) t c in

@@ -15,8 +15,7 @@ use Rattle.placing.specs.Answer.{In, Ascending, Lists}
 -- in an ascending list a later entry is larger
 pub ascending-lt : (xs : List ℕ) → Ascending xs → (j k : ℕ) → j < k → k < length xs → getD xs j 0 < getD xs k 0
 ascending-lt xs a j zero h l = absurd (omega arith)
-ascending-lt xs a j (suc k) h l = below-or-at h
-    (λ g. let r : getD xs j 0 < getD xs k 0 = ascending-lt xs a j k g (omega arith) in omega (arith, a k l))
+ascending-lt xs a j (suc k) h l = below-or-at h (λ g. let r : getD xs j 0 < getD xs k 0 = ascending-lt xs a j k g (omega arith) in omega (arith, a k l))
     (λ e. subst (λ (i : ℕ). getD xs i 0 < getD xs (suc k) 0) (sym e) (a k l))
 
 module _ (P : ℕ → Type 0) where

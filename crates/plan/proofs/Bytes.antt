@@ -105,8 +105,7 @@ module _ (R : ℕ → ℕ → Type 0) (g k m : ℕ) (before after : List ℕ) (i
 
       back : (s : ℕ) (q : Entry R c v s) → Dec (q .0 ≡ k) → Entry R g u s ⊎ R (8 * g + k) s
       back s q (yes z) = inr (subst (λ b. R (8 * g + b) s) z (subst (λ y. R (8 * y + q .0) s) e (q .2)))
-      back s q (no z) =
-          inl (q .0, sym (set-other u k (q .0) z) ∙ subst (λ y. bit y (q .0) ≡ 1) with-bit (q .1), subst (λ y. R (8 * y + q .0) s) e (q .2))
+      back s q (no z) = inl (q .0, sym (set-other u k (q .0) z) ∙ subst (λ y. bit y (q .0) ≡ 1) with-bit (q .1), subst (λ y. R (8 * y + q .0) s) e (q .2))
 
       joins : Marks (getD after (256 * c + v) 0) (Entry R c v)
       joins =
@@ -148,8 +147,7 @@ pub spread-iff : (R Q : ℕ → ℕ → Type 0) (n : ℕ) (table : List ℕ) →
 spread-iff R Q n table f t =
     record {
       size = t .size;
-      entry = λ c v hc hv h.
-          marks-to (getD table (256 * c + v) 0) (Entry R c v) (Entry Q c v)
+      entry = λ c v hc hv h. marks-to (getD table (256 * c + v) 0) (Entry R c v) (Entry Q c v)
           (λ s q. (q .0, q .1, f (8 * c + q .0) s (h (q .0) (q .1)) .0 (q .2)))
           (λ s q. (q .0, q .1, f (8 * c + q .0) s (h (q .0) (q .1)) .1 (q .2)))
           (t .entry c v hc hv h);
@@ -167,9 +165,7 @@ module _ (R : ℕ → ℕ → Type 0) (n : ℕ) (table : List ℕ) (x : ℕ) (t 
 
   -- so a bit of byte c is one of x
   byte-in : (c b : ℕ) → bit (x / 2 ^ (8 * c) % 256) b ≡ 1 → (b < 8) × (bit x (8 * c + b) ≡ 1)
-  byte-in c b e =
-      let l = bit-in (x / 2 ^ (8 * c) % 256) 8 b (omega arith) e in
-      (l, sym (byte-bit c b l) ∙ e)
+  byte-in c b e = let l = bit-in (x / 2 ^ (8 * c) % 256) 8 b (omega arith) e in (l, sym (byte-bit c b l) ∙ e)
 
   -- the steps to which the bits of x below 8k lead
   abbrev LedTo : ℕ → ℕ → Type 0

@@ -33,8 +33,7 @@ module _ (A : Shape) (sets : Sets) (g : SetsOf A sets) (c d : ℕ) where
   place t a b e h = subst (λ (x : ℕ). bit (maskFor x c d) t ≡ 1) e h
 
   missing-into : (t : ℕ) → Edge t × (Had t → ⊥) → Missing A c d t
-  missing-into t q = ⊎-elim
-      (λ o. (o .0, o .1, λ h. q .1 (inl (place t (A .axis t) 0 (o .2) h, o))))
+  missing-into t q = ⊎-elim (λ o. (o .0, o .1, λ h. q .1 (inl (place t (A .axis t) 0 (o .2) h, o))))
       (λ o. (o .0, o .1, λ h. q .1 (inr (place t (A .axis t) 1 (o .2) h, o))))
       (q .0)
 

@@ -102,8 +102,7 @@ module _ (X : Rows) (Fits : ℕ → ℕ → Type 0) where
       -- one turn
       pub risen-turn : Risen i fit′ under′
       risen-turn = record {
-        fits = λ x k l. ⊎-elim
-            (λ e. subst (λ (y : ℕ). Marks (fit′ y) (Fits y)) e (rw (h .own) m))
+        fits = λ x k l. ⊎-elim (λ e. subst (λ (y : ℕ). Marks (fit′ y) (Fits y)) e (rw (h .own) m))
             (λ y. rw (h .later x y) (u .fits x y l)) (eq-or-lt-of-le k);
         children = λ x l. here x l .0;
         below = λ x l. here x l .1;
@@ -119,22 +118,17 @@ module _ (A : Shape) (X : Rows) (ok : ℕ → ℕ → Type 0) (Fits : ℕ → �
   -- where a child step goes
   next : (t a : ℕ) → bit (maskFor a (fit i) (under i)) t ≡ 1 → (j : ℕ) × Goes X a i j × Able (rowTask A X ok) t j
   next t zero w = let r = u .children i (omega arith) .only t w in (r .0, (r .2, r .3), can (r .0) t .1 (r .4) .1)
-  next t (suc a) w =
-      let r = u .below i (omega arith) .only t w in
-      (r .3 .0, top-below (r .2) (r .3 .1), can (r .3 .0) t .1 (r .3 .2) .1)
+  next t (suc a) w = let r = u .below i (omega arith) .only t w in (r .3 .0, top-below (r .2) (r .3 .1), can (r .3 .0) t .1 (r .3 .2) .1)
 
   by-fits : (s : ℕ) → FitsBy A Right (fit i) (under i) s → Fits i s
   by-fits s h = can i s .0 (
     h .0,
-    able (right s .0 (h .1)) (λ t k. next t (A .axis t) (h .2 t k) .0) (λ t k. next t (A .axis t) (h .2 t k) .1)
-        (λ t k. next t (A .axis t) (h .2 t k) .2),
+    able (right s .0 (h .1)) (λ t k. next t (A .axis t) (h .2 t k) .0) (λ t k. next t (A .axis t) (h .2 t k) .1) (λ t k. next t (A .axis t) (h .2 t k) .2),
   )
 
   has : (t : ℕ) → t < A .tree .size → (a j : ℕ) → Goes X a i j → Able (rowTask A X ok) t j → bit (maskFor a (fit i) (under i)) t ≡ 1
   has t l zero j g a = u .children i (omega arith) .put t (j, later X Fits v i j (g .0), g .0, g .1, can j t .0 (l, a))
-  has t l (suc n) j g a =
-      let b = below-top g in
-      u .below i (omega arith) .put t (b .0, later X Fits v i (b .0) (b .1), b .1, (j, b .2, can j t .0 (l, a)))
+  has t l (suc n) j g a = let b = below-top g in u .below i (omega arith) .put t (b .0, later X Fits v i (b .0) (b .1), b .1, (j, b .2, can j t .0 (l, a)))
 
   fits-by : (s : ℕ) → Fits i s → FitsBy A Right (fit i) (under i) s
   fits-by s h =

@@ -52,8 +52,7 @@ module _ (f : ℕ → ℕ) where
   -- k is the next one after its number
   pub forking-skip : (k x : ℕ) → f k + 1 ≡ k → Forking f k x → Forking f (k + 1) x
   forking-skip k x e m = record {
-    has = λ u l h n. elim (ℕ-discrete u k)
-        [ yes z ↦ absurd (n (subst (λ y. f y + 1 ≡ y) (sym z) e)) | no w ↦ m .has u l (omega arith) n ];
+    has = λ u l h n. elim (ℕ-discrete u k) [ yes z ↦ absurd (n (subst (λ y. f y + 1 ≡ y) (sym z) e)) | no w ↦ m .has u l (omega arith) n ];
   }
 
   -- the number of k is put

@@ -89,8 +89,7 @@ module _ {xs ys : List ℕ} {t : TwoRead} (s : ReadsTwo xs ys t) where
         (λ w. last-holds (freshCheck A B) _ r (λ p. (omega (arith, m, l), omega (arith, m, l))) (w .1)) (w .1)) w in
         record {
           says = (
-            refuses-rest front (freshCheck A B ++ roomFor 517 (length room₀)) r passes
-                (refuses-front (freshCheck A B) (roomFor 517 (length room₀)) r fresh),
+            refuses-rest front (freshCheck A B ++ roomFor 517 (length room₀)) r passes (refuses-front (freshCheck A B) (roomFor 517 (length room₀)) r fresh),
             k,
           );
         }

@@ -54,8 +54,7 @@ module _ {ds ps parents₀ labels₀ parents labels : List ℕ} {n : ℕ} {p : P
         arith,
         both-nodes t,
         f .count,
-        answers-few First (shapeOf (packetPattern ps)) (packetDocument ds) (f .answers) (pattern-valid t .output)
-            (f .lists),
+        answers-few First (shapeOf (packetPattern ps)) (packetDocument ds) (f .answers) (pattern-valid t .output) (f .lists),
       )
 
   module _ (list work : List ℕ) where
@@ -68,8 +67,7 @@ module _ {ds ps parents₀ labels₀ parents labels : List ℕ} {n : ℕ} {p : P
     has-room : HasRoom (packetDocument ds) (length list₀) (length work₀)
     has-room = (
       omega (arith, both-few t, both-nodes t, length-replicate {A = ℕ} 2048 0),
-      omega
-          (arith, both-few t, both-nodes t, length-replicate {A = ℕ} 4096 0),
+      omega (arith, both-few t, both-nodes t, length-replicate {A = ℕ} 4096 0),
     )
 
     -- the call in terms of the packets
@@ -85,8 +83,7 @@ module _ {ds ps parents₀ labels₀ parents labels : List ℕ} {n : ℕ} {p : P
           let x = subst (λ a. FindsAnswers (packetPattern ps) (packetDocument ds) list₀ work₀ a list work) e (here a h) in
           record {
             says = (
-              ⊎-elim (λ w. absurd (w .0 (pattern-valid t)))
-                  (λ w. ⊎-elim (λ w. both-bad t (patternChecks ps ++ nodesRoom ds (length room₀)) r (w .0) (w .1))
+              ⊎-elim (λ w. absurd (w .0 (pattern-valid t))) (λ w. ⊎-elim (λ w. both-bad t (patternChecks ps ++ nodesRoom ds (length room₀)) r (w .0) (w .1))
                   (λ w. absurd (⊎-elim (λ w. w .0 has-room) (λ w. w .1) (w .1))) (w .1))
                   (x .0),
               k,

@@ -100,8 +100,7 @@ module _ {ds ps parents₀ labels₀ parents labels : List ℕ} {n : ℕ} {p : P
           let x = subst (λ a. FindsStarted (packetPattern ps) (packetDocument ds) (unpacked ss) list₀ work₀ a list work) e here in
           record {
             says = (
-              ⊎-elim (λ w. absurd (w .0 (pattern-valid t)))
-                  (λ w. ⊎-elim (λ w. both-bad t (patternChecks ps ++ rest) r (w .0) (w .1))
+              ⊎-elim (λ w. absurd (w .0 (pattern-valid t))) (λ w. ⊎-elim (λ w. both-bad t (patternChecks ps ++ rest) r (w .0) (w .1))
                   (λ v. refuses-rest front rest r (both-passes t (v .0))
                   (⊎-elim (λ w. inl (λ z. w .0 (z .0, z .2), w .1)) (λ w. absurd (⊎-elim (λ w. w .0 has-room) (λ w. w .1) (w .1))) (v .1))) (w .1))
                   (x .0),

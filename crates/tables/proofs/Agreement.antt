@@ -46,13 +46,12 @@ valid-agree {A} {B} e v = record {
     }
 
 -- the first entries of a table's lists say what the table says
-front-agree : (p : Pattern) (n : ℕ) → n ≡ p .count → n ≤ length (p .parent)
-    → Agree (record {
-      tree = stepsOf (take n (p .parent)) (take n (p .axis)) (take n (p .label)) .tree;
-      label = λ s. getD (take n (p .label)) s 0;
-      axis = λ s. getD (take n (p .axis)) s 0;
-      output = p .output .0;
-    }) (shapeOf p)
+front-agree : (p : Pattern) (n : ℕ) → n ≡ p .count → n ≤ length (p .parent) → Agree (record {
+  tree = stepsOf (take n (p .parent)) (take n (p .axis)) (take n (p .label)) .tree;
+  label = λ s. getD (take n (p .label)) s 0;
+  axis = λ s. getD (take n (p .axis)) s 0;
+  output = p .output .0;
+}) (shapeOf p)
 front-agree p n e l =
     let m : length (take n (p .parent)) ≡ n = length-take-le n (p .parent) l in
     record {

@@ -82,8 +82,7 @@ bit-below s t h = let e : 2 ^ s / 2 ^ t ≡ 0 = div-eq-of-lt (pow-lt h) in omega
 
 bit-above-by : (t k : ℕ) → bit (2 ^ (t + suc k)) t ≡ 0
 unfolding bit
-bit-above-by t k =
-    rw (pow-add 2 t (suc k), mul-div-right (2 ^ suc k) (pow-pos t), pow-suc 2 k) (omega arith)
+bit-above-by t k = rw (pow-add 2 t (suc k), mul-div-right (2 ^ suc k) (pow-pos t), pow-suc 2 k) (omega arith)
 
 pub bit-above : (s t : ℕ) → t < s → bit (2 ^ s) t ≡ 0
 bit-above s t h =
@@ -92,8 +91,7 @@ bit-above s t h =
     rw e (bit-above-by t k)
 
 pub bit-other : (s t : ℕ) → (t ≡ s → ⊥) → bit (2 ^ s) t ≡ 0
-bit-other s t h =
-    elim (decLt s t) [ yes b ↦ bit-below s t b | no b ↦ bit-above s t (omega arith) ]
+bit-other s t h = elim (decLt s t) [ yes b ↦ bit-below s t b | no b ↦ bit-above s t (omega arith) ]
 
 -- a bit that is set
 pub set-here : (x s : ℕ) → bit (bitOr x (2 ^ s)) s ≡ 1
@@ -128,11 +126,10 @@ bits-same x y h = bit-ext (x + y) x y (omega (arith, lt-pow (x + y))) (omega (ar
 -- a number has a bit among its first k, or they are all 0
 bit-or-none : (x k : ℕ) → ((s : ℕ) × (bit x s ≡ 1)) ⊎ ((s : ℕ) → s < k → bit x s ≡ 0)
 bit-or-none x zero = inr (λ s l. absurd (omega arith))
-bit-or-none x (suc k) = ⊎-elim inl
-    (λ (f : (s : ℕ) → s < k → bit x s ≡ 0). elim (ℕ-discrete (bit x k) 1) [
-      | yes e ↦ inl (k, e)
-      | no n ↦ inr (λ s l. elim (ℕ-discrete s k) [ yes e ↦ (let h = bit-lt x k in rw e (omega arith)) | no d ↦ f s (omega arith) ])
-    ])
+bit-or-none x (suc k) = ⊎-elim inl (λ (f : (s : ℕ) → s < k → bit x s ≡ 0). elim (ℕ-discrete (bit x k) 1) [
+  | yes e ↦ inl (k, e)
+  | no n ↦ inr (λ s l. elim (ℕ-discrete s k) [ yes e ↦ (let h = bit-lt x k in rw e (omega arith)) | no d ↦ f s (omega arith) ])
+])
     (bit-or-none x k)
 
 -- a number that is not 0 has a bit

@@ -14,8 +14,7 @@ use Rattle.tables.proofs.Choice.{below-or-at}
 pub blocks-fit : (b : ℕ → List ℕ) (n k : ℕ) → k < n → length (blocks b k) + length (b k) ≤ length (blocks b n)
 unfolding blocks
 blocks-fit b zero k l = absurd (omega arith)
-blocks-fit b (suc n) k l = below-or-at l
-    (λ h. omega (arith, blocks-fit b n k h, length-append (blocks b n) (b n)))
+blocks-fit b (suc n) k l = below-or-at l (λ h. omega (arith, blocks-fit b n k h, length-append (blocks b n) (b n)))
     (λ e. omega (arith, length-append (blocks b n) (b n), ap (λ x. length (blocks b x)) e, ap (λ x. length (b x)) e))
 
 -- entry r of block k
@@ -42,8 +41,7 @@ pub column-length : (f : ℕ → ℕ) (n : ℕ) → length (column f n) ≡ n
 column-length f n = blocks-length (λ k. f k ∷ []) 1 n (λ k l. refl) ∙ omega arith
 
 pub column-at : (f : ℕ → ℕ) (n k : ℕ) → k < n → getD (column f n) k 0 ≡ f k
-column-at f n k l =
-    ap (λ i. getD (column f n) i 0) (omega (arith, column-length f k)) ∙ blocks-at (λ k. f k ∷ []) n k 0 l (omega arith)
+column-at f n k l = ap (λ i. getD (column f n) i 0) (omega (arith, column-length f k)) ∙ blocks-at (λ k. f k ∷ []) n k 0 l (omega arith)
 
 pub column-ext : (f g : ℕ → ℕ) (n : ℕ) → ((k : ℕ) → k < n → f k ≡ g k) → column f n ≡ column g n
 column-ext f g n h = blocks-ext (λ k. f k ∷ []) (λ k. g k ∷ []) n (λ k l. ap (λ x. x ∷ []) (h k l))

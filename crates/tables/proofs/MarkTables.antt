@@ -33,8 +33,7 @@ module _ (low : ℕ) (Q : ℕ → Type 0) where
 
   -- k is not one of them
   pub among-skip : (x k : ℕ) → (Q k → ⊥) → Marks x (Among low k Q) → Marks x (Among low (k + 1) Q)
-  among-skip x k h =
-      marks-to x (Among low k Q) (Among low (k + 1) Q) (wider k) (λ s q. narrower k s q (λ e. h (subst Q e (q .2))))
+  among-skip x k h = marks-to x (Among low k Q) (Among low (k + 1) Q) (wider k) (λ s q. narrower k s q (λ e. h (subst Q e (q .2))))
 
   -- k is one of them
   pub among-more : (x k : ℕ) → low ≤ k → Q k → Marks x (Among low k Q) → Marks (bitOr x (2 ^ k)) (Among low (k + 1) Q)

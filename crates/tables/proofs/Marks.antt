@@ -61,9 +61,7 @@ bits-lt k x h = let e = bits-same x (x % 2 ^ k) (λ s. go s (decLt s k)) in let 
   where
     go : (s : ℕ) → Dec (s < k) → bit x s ≡ bit (x % 2 ^ k) s
     go s (yes l) = sym (bit-mod x k s l)
-    go s (no n) =
-        let z = bit-high (x % 2 ^ k) k s (mod-lt x (pow-pos k)) (omega arith) in
-        ⊎-elim (λ e. absurd (n (h s e))) (λ e. omega arith) (bit-cases x s)
+    go s (no n) = let z = bit-high (x % 2 ^ k) k s (mod-lt x (pow-pos k)) (omega arith) in ⊎-elim (λ e. absurd (n (h s e))) (λ e. omega arith) (bit-cases x s)
 
 -- so has one whose marks all stand below k
 pub marks-lt : (k x : ℕ) (P : ℕ → Type 0) → Marks x P → ((s : ℕ) → P s → s < k) → x < 2 ^ k
@@ -118,7 +116,6 @@ marks-mask (suc n) p P h = go (p n) (h n (omega arith)) (marks-mask n p P (λ s 
         (λ s q. ⊎-elim (λ x. (omega (arith, x .0), x .1)) (λ e. (omega arith, subst P (sym e) (t .says tt))) q)
         (λ s q. below-or-at (q .0) (λ l. inl (l, q .1)) (λ e. inr e))
         (marks-with (mask n p) n (λ s. (s < n) × P s) r))
-    go false t r = rw (zero-add (mask n p)) (marks-to (mask n p) (λ s. (s < n) × P s) (λ s. (s < suc n) × P s)
-        (λ s q. (omega (arith, q .0), q .1))
+    go false t r = rw (zero-add (mask n p)) (marks-to (mask n p) (λ s. (s < n) × P s) (λ s. (s < suc n) × P s) (λ s q. (omega (arith, q .0), q .1))
         (λ s q. below-or-at (q .0) (λ l. (l, q .1)) (λ e. absurd (t .test (subst P e (q .1)))))
         r)

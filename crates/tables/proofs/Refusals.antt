@@ -40,8 +40,7 @@ refuses-not-passes (c ∷ cs) r h p = ⊎-elim (λ w. w .0 (p .0)) (λ w. refuse
 -- no second refusal fits
 pub refuses-unique : (cs : List Check) (r q : Refusal) → Refuses cs r → Refuses cs q → r ≡ q
 refuses-unique [] r q h k = absurd h
-refuses-unique (c ∷ cs) r q h k = ⊎-elim
-    (λ w. ⊎-elim (λ x. number-unique r q (w .1 ∙ sym (x .1))) (λ x. absurd (w .0 (x .0))) k)
+refuses-unique (c ∷ cs) r q h k = ⊎-elim (λ w. ⊎-elim (λ x. number-unique r q (w .1 ∙ sym (x .1))) (λ x. absurd (w .0 (x .0))) k)
     (λ w. ⊎-elim (λ x. absurd (x .0 (w .0))) (λ x. refuses-unique cs r q (w .1) (x .1)) k)
     h
 

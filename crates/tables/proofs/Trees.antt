@@ -29,8 +29,7 @@ pub parent-lt-to : {T : Tree} (k : ℕ) → ((j : ℕ) → j < k → suc j < T .
     i < i
 parent-lt-to zero v i l p s = omega arith
 parent-lt-to (suc k) v zero l p s = omega arith
-parent-lt-to (suc k) v (suc i) l p s = ⊎-elim
-    (λ e. omega arith)
+parent-lt-to (suc k) v (suc i) l p s = ⊎-elim (λ e. omega arith)
     (λ b. omega (arith, below-lt-to (λ j m. parent-lt-to k (λ x h. v x (omega arith)) j (omega arith)) b))
     (v i (omega arith) s)
 

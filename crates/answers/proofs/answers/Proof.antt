@@ -43,8 +43,7 @@ returns-2 c =
     (inr (patterned x, ⊎-elim inl (λ w. absurd (w .1)) (v .0)), (refl, refl))
 
 -- the third is that both lists have room
-short : (z : tie.Joined1)
-    → let a = z .before .before .before .before .before .before .before .before .before .before .before .args in
+short : (z : tie.Joined1) → let a = z .before .before .before .before .before .before .before .before .before .before .before .args in
     HasRoom (documentOf (now (a .parents)) (now (a .labels))) (length (now (a .list))) (length (now (a .work))) → ⊥
 short z w =
     let a = z .before .before .before .before .before .before .before .before .before .before .before .args in
@@ -52,28 +51,22 @@ short z w =
     (λ q. omega (arith, w .1, ltb-true (length (now (a .work)) / 2) (length (now (a .parents))) (q .1 .taken))) (z .if1 .came)
 
 returns-3 : tie.Need-returns-3
-returns-3 c =
-    let y = c .before in
-    (inr (patterned (y .before .before .before), inr (documented y, inl (short c, refl))), (refl, refl))
+returns-3 c = let y = c .before in (inr (patterned (y .before .before .before), inr (documented y, inl (short c, refl))), (refl, refl))
 
-room : (z : tie.Else2)
-    → let a = z .before .before .before .before .before .before .before .before .before .before .before .before .args in
+room : (z : tie.Else2) → let a = z .before .before .before .before .before .before .before .before .before .before .before .before .args in
     HasRoom (documentOf (now (a .parents)) (now (a .labels))) (length (now (a .list))) (length (now (a .work)))
 room z =
     let a = z .before .before .before .before .before .before .before .before .before .before .before .before .args in
     (z .before .if1 .left, omega (arith, ltb-false (length (now (a .work)) / 2) (length (now (a .parents))) (z .if2 .left)))
 
 find-requires : tie.Need-find-requires
-find-requires c κs =
-    let y = c .before .before .before .before in
-    (patterned (y .before .before .before), (documented y, room (c .before .before)))
+find-requires c κs = let y = c .before .before .before .before in (patterned (y .before .before .before), (documented y, room (c .before .before)))
 
 returns-4 : tie.Need-returns-4
 returns-4 c =
     let y = c .before .before .before .before .before .before .before .before .before in (
       (patterned (y .before .before .before), (documented y, (room (c .before .before .before .before .before .before .before), tt))),
-      c .before .before
-          .before .before .find .ensures,
+      c .before .before .before .before .find .ensures,
     )
 
 pub answers-spec : {M : Type 1} → statement M

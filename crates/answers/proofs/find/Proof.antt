@@ -33,9 +33,6 @@ returns c =
     (found-before A _ _ _ _ _ _ _ _ (plain-length A _ (s .pre .0) v _ _ room u) (plain-rest A _ (s .pre .0) v _ _ room u)
     (c .before .before .before .before .place-nodes .ensures (now (s .args .labels)) v (plain-ready A _ (s .pre .0) v _ _ room u)))
 
-same-length-2 : tie.Need-same-length-2
-same-length-2 c = returns c .working .same-length
-
 pub find-spec : {M : Type 1} → statement M
 find-spec = tie.close (tie.spec (λ c. search needs) (λ c. search needs) (λ c κs. search needs) (λ c. search needs) place-nodes-requires
-    (λ c. search needs) same-length-2 returns)
+    (λ c. search needs) (λ c. returns c .working .same-length) returns)

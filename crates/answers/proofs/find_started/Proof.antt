@@ -51,5 +51,4 @@ returns c =
     (m .ensures .0) (m .ensures .1)) (c .before .before .before .before .place-nodes .ensures (now (s .args .labels)) v (ready x)))
 
 pub find-started-spec : {M : Type 1} → statement M
-find-started-spec = tie.close (tie.spec (λ c κs. search needs) mark-starts-requires place-nodes-requires (λ c. search needs) (λ c. search needs)
-    returns)
+find-started-spec = tie.close (tie.spec (λ c κs. search needs) mark-starts-requires place-nodes-requires (λ c. search needs) (λ c. search needs) returns)

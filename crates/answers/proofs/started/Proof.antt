@@ -45,15 +45,12 @@ returns-2 c =
     (inr (patterned x, ⊎-elim inl (λ w. absurd (w .1)) (v .0)), (refl, refl))
 
 -- the third is of the start
-wrong : (z : tie.Joined1)
-    → let a = z .before .before .before .before .before .before .before .before .before .before .before .before .before .args in
+wrong : (z : tie.Joined1) → let a = z .before .before .before .before .before .before .before .before .before .before .before .before .before .args in
     (shapeOf (a .t1) .axis 0 ≡ 0) × StartList (documentOf (now (a .parents)) (now (a .labels))) (now (a .starts)) → ⊥
 wrong z w = ⊎-elim (λ q. q .taken (w .0)) (λ q. failed (q .1 .result) (q .2 .taken) (q .1 .ensures _ refl .1 (w .1))) (z .if1 .came)
 
 returns-3 : tie.Need-returns-3
-returns-3 c =
-    let y = c .before .before in
-    (inr (patterned (y .before .before .before), inr (documented y, inl (wrong c, refl))), (refl, refl))
+returns-3 c = let y = c .before .before in (inr (patterned (y .before .before .before), inr (documented y, inl (wrong c, refl))), (refl, refl))
 
 begun : (z : tie.Else2)
     → let a = z .before .before .before .before .before .before .before .before .before .before .before .before .before .before .before .args in

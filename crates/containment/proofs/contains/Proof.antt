@@ -55,18 +55,13 @@ size : (c : tie.After-descendants-before) → c .before .before .before .before 
 size c = rw (c .descendants-before .ensures)
 
 -- past the fourth both lists have room for it
-room : (c : tie.Else3)
-    → let s = c .before .before .before .before .before .before .before .before .before .before in
+room : (c : tie.Else3) → let s = c .before .before .before .before .before .before .before .before .before .before in
     (witnessSize (shapeOf (s .args .a)) ≤ length (now (s .args .parents))) × (witnessSize (shapeOf (s .args .a)) ≤ length (now (s .args .labels)))
 room c =
     let z = size (c .before .before .before) in
     let a = c .before .before .before .before .before .before .before .before .before .before .args in (
       omega (arith, c .before .if2 .left),
-      omega (
-        arith,
-        ltb-false (length (now (a .labels)))
-            (a .a .count + c .before .before .before .descendants-before .result) (c .if3 .left),
-      ),
+      omega (arith, ltb-false (length (now (a .labels))) (a .a .count + c .before .before .before .descendants-before .result) (c .if3 .left)),
     )
 
 returns : tie.Need-returns
@@ -77,9 +72,6 @@ returns c =
     let q = c .before .before .answer .given in
     let h = subst (λ (v : Verdict). AnswersVerdict (s .args .a) (s .args .b) v (k .decide .result .mapping)) (q .1) (k .decide .ensures) in
     rw (u .0) (verdict-refuses (s .args .a) (s .args .b) _ _ (q .0 .0) (h .0), u .1, refl, refl)
-
-fresh-requires : tie.Need-fresh-requires
-fresh-requires c κs = (sound c .0 .few, sound c .1 .0 .few)
 
 returns-2 : tie.Need-returns-2
 returns-2 c =
@@ -93,9 +85,6 @@ returns-2 c =
       refl,
       refl,
     )
-
-descendants-before-requires : tie.Need-descendants-before-requires
-descendants-before-requires c κs = (sound (c .before .before) .0, omega arith)
 
 add-m : tie.Need-add-m
 add-m c = record { fits = omega (arith, size (c .before), witness-few (sound (c .before .before .before .before) .0)) }
@@ -125,8 +114,7 @@ returns-4 c =
     (k .decide .ensures) in
     let r = room (c .before .before .before) in (
       all-pass (a .a) (a .b) (length (now (a .parents))) (length (now (a .labels))) (sound (d .before .before .before)) _ (free (d .before)) (r .0) (r .1),
-      h
-          .1,
+      h .1,
       refl,
       refl,
     )
@@ -168,7 +156,7 @@ returns-5 c =
     )
 
 pub contains-spec : {M : Type 1} → statement M
-contains-spec = tie.close (tie.spec (λ c κs. search needs) (λ c. search needs) (λ c κs. search needs) returns fresh-requires (λ c κs. search needs)
-    returns-2 descendants-before-requires add-m (λ c κs. search needs) returns-3 (λ c. search needs) returns-4
-    write-witness-requires (λ c. search needs) own-node-requires (λ c. search needs) (λ c κs. search needs) (λ c. search needs) (λ c. search needs)
-    returns-5)
+contains-spec = tie.close (tie.spec (λ c κs. search needs) (λ c. search needs) (λ c κs. search needs) returns
+    (λ c κs. (sound c .0 .few, sound c .1 .0 .few)) (λ c κs. search needs) returns-2 (λ c κs. (sound (c .before .before) .0, omega arith)) add-m
+    (λ c κs. search needs) returns-3 (λ c. search needs) returns-4 write-witness-requires (λ c. search needs) own-node-requires (λ c. search needs)
+    (λ c κs. search needs) (λ c. search needs) (λ c. search needs) returns-5)

@@ -32,9 +32,6 @@ returns-2 c =
     second-refused (a .a) (a .b) (c .before .r2 .given .0 .0) (valid (c .before .before .before .before))
     (subst (ChecksPattern (a .b)) (c .before .r2 .given .1) (c .before .before .before .check-pattern2 .ensures))
 
-within-requires : tie.Need-within-requires
-within-requires c κs = (valid (c .before .before .before), valid-2 c)
-
 within-requires-2 : tie.Need-within-requires-2
 within-requires-2 c κs =
     let v = valid (c .before .before .before .before .before) in
@@ -61,4 +58,4 @@ returns-4 c =
 
 pub equal-spec : {M : Type 1} → statement M
 equal-spec = tie.close (tie.spec (λ c κs. search needs) (λ c. search needs) returns (λ c. search needs) (λ c κs. search needs) (λ c. search needs)
-    returns-2 (λ c. search needs) within-requires within-requires-2 returns-3 returns-4)
+    returns-2 (λ c. search needs) (λ c κs. (valid (c .before .before .before), valid-2 c)) within-requires-2 returns-3 returns-4)

@@ -31,21 +31,11 @@ Inv-labels a b n m used l₀ l = (l ≤ 65535) × ((k : ℕ) → k < l + 1 → 1
 abbrev μ-labels : tie.MeasureT-labels
 μ-labels a b n m used l₀ l = 65535 - l
 
-mark-labels-requires : tie.Need-mark-labels-requires Inv-loop μ-loop Inv-loop2 μ-loop2 Inv-labels μ-labels
-mark-labels-requires c κs = c .before .pre .0
-
-mark-labels-requires-2 : tie.Need-mark-labels-requires-2 Inv-loop μ-loop Inv-loop2 μ-loop2 Inv-labels μ-labels
-mark-labels-requires-2 c κs = c .before .before .before .pre .1
-
-labels-holds : tie.Need-labels-holds Inv-loop μ-loop Inv-loop2 μ-loop2 Inv-labels μ-labels
-labels-holds c = (omega arith, λ k g h. absurd (omega arith))
-
 labels-again : tie.Need-labels-again Inv-loop μ-loop Inv-loop2 μ-loop2 Inv-labels μ-labels
 labels-again c =
     let l = c .before .before .before .labels in (
       omega arith,
-      below-more (λ (k : ℕ). 1 ≤ k → Stands _ k ⊎ Stands _ k) (l .l + 1) (l .inv .1)
-          (λ z. ⊎-elim
+      below-more (λ (k : ℕ). 1 ≤ k → Stands _ k ⊎ Stands _ k) (l .l + 1) (l .inv .1) (λ z. ⊎-elim
           (λ t. ⊎-elim (λ f. absurd (none-used 256 (l .l + 1) (omega arith) f)) inl
           (c .before .before .before .before .before .before .mark-labels .ensures (l .l + 1) t))
           inr
@@ -96,7 +86,8 @@ returns-2 c =
     }
 
 pub fresh-spec : {M : Type 1} → statement M
-fresh-spec = tie.close (tie.spec Inv-loop μ-loop Inv-loop2 μ-loop2 Inv-labels μ-labels mark-labels-requires mark-labels-requires-2 labels-holds
-    (λ c. omega arith) (λ c. omega arith) (λ c. omega arith) (λ c. omega arith) labels-again loop-holds (λ c. omega arith) (λ c. omega arith)
-    (λ c. omega arith) labels-again-2 (λ c. omega arith) (λ c. omega arith) loop-again loop2-holds (λ c. omega arith) (λ c. omega arith)
-    (λ c. omega arith) labels-again-3 (λ c. omega arith) (λ c. omega arith) loop2-again returns returns-2)
+fresh-spec = tie.close (tie.spec Inv-loop μ-loop Inv-loop2 μ-loop2 Inv-labels μ-labels (λ c κs. c .before .pre .0)
+    (λ c κs. c .before .before .before .pre .1) (λ c. (omega arith, λ k g h. absurd (omega arith))) (λ c. omega arith) (λ c. omega arith)
+    (λ c. omega arith) (λ c. omega arith) labels-again loop-holds (λ c. omega arith) (λ c. omega arith) (λ c. omega arith) labels-again-2
+    (λ c. omega arith) (λ c. omega arith) loop-again loop2-holds (λ c. omega arith) (λ c. omega arith) (λ c. omega arith) labels-again-3
+    (λ c. omega arith) (λ c. omega arith) loop2-again returns returns-2)

@@ -23,8 +23,7 @@ loop-again c =
     let m = c .before .before .before in
     let a = m .before .args in (
       omega arith,
-      ⊎-elim
-          (λ w. rw (w .1) (used-more (shapeOf (a .t1)) (m .loop .s) (now (a .used)) (m .loop .used) (omega arith) (m .loop .inv .1)))
+      ⊎-elim (λ w. rw (w .1) (used-more (shapeOf (a .t1)) (m .loop .s) (now (a .used)) (m .loop .used) (omega arith) (m .loop .inv .1)))
           (λ w. rw (w .1) (m .loop .inv .1))
           (c .if1 .came),
     )

@@ -16,21 +16,12 @@ Inv-loop n own axis fit m s₀ s = (s ≤ m) × ((j : ℕ) → j < s → bit (ge
 abbrev μ-loop : tie.MeasureT-loop
 μ-loop n own axis fit m s₀ s = m - s
 
-first-steps-requires : tie.Need-first-steps-requires Inv-loop μ-loop
-first-steps-requires c κs = c .pre .0
-
 loop-holds : tie.Need-loop-holds Inv-loop μ-loop
 loop-holds c = (omega arith, λ j l. absurd (omega arith))
 
 -- the step looked at is one of a's
 small : (c : tie.In-loop Inv-loop μ-loop) → c .before .loop .s < 64
 small c = omega (arith, c .before .before .first-steps .ensures (c .before .loop .s) .0 (c .loop-test .taken) .0, c .before .before .before .pre .1)
-
-mul-has-bit : tie.Need-mul-has-bit Inv-loop μ-loop
-mul-has-bit c = record { fits = omega (arith, small c) }
-
-element-copy-out-has-bit : tie.Need-element-copy-out-has-bit Inv-loop μ-loop
-element-copy-out-has-bit c = small c
 
 returns : tie.Need-returns Inv-loop μ-loop
 returns c =
@@ -47,10 +38,8 @@ loop-again c =
     (omega arith, below-more _ _ (m .loop .inv .1) (λ e. rw (c .if1 .left) at (h .ensures .1 e)))
 
 returns-2 : tie.Need-returns-2 Inv-loop μ-loop
-returns-2 c =
-    let m = c .before in
-    nothing refl (λ j x. m .loop .inv .1 j (omega (arith, m .before .first-steps .ensures j .1 (x .0))) (x .1))
+returns-2 c = let m = c .before in nothing refl (λ j x. m .loop .inv .1 j (omega (arith, m .before .first-steps .ensures j .1 (x .0))) (x .1))
 
 pub first-image-spec : {M : Type 1} → statement M
-first-image-spec = tie.close (tie.spec Inv-loop μ-loop first-steps-requires loop-holds mul-has-bit element-copy-out-has-bit (λ c κs. omega arith)
-    returns (λ c. omega arith) (λ c. omega arith) loop-again returns-2)
+first-image-spec = tie.close (tie.spec Inv-loop μ-loop (λ c κs. c .pre .0) loop-holds (λ c. record { fits = omega (arith, small c) }) (λ c. small c)
+    (λ c κs. omega arith) returns (λ c. omega arith) (λ c. omega arith) loop-again returns-2)

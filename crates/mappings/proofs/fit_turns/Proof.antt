@@ -35,15 +35,8 @@ loop-holds c =
       omega arith,
       ap length (c .pre .1 .1),
       refl,
-      λ B p o. rw (c .pre .1 .1)
-          (risen-start _ _ _ _ (λ i l. (zeros-at 64 i, zeros-at 64 i))),
+      λ B p o. rw (c .pre .1 .1) (risen-start _ _ _ _ (λ i l. (zeros-at 64 i, zeros-at 64 i))),
     )
-
-fits-requires : tie.Need-fits-requires Inv-loop μ-loop
-fits-requires c κs = c .before .before .before .before .pre .1 .0
-
-along-requires : tie.Need-along-requires Inv-loop μ-loop
-along-requires c κs = tt
 
 -- a step's parent comes before it
 up : (c : tie.After-hand-up-arg2 Inv-loop μ-loop) → getD (c .before .before .before .before .before .before .before .before .before .before .args .t1 .parent)
@@ -52,9 +45,6 @@ up : (c : tie.After-hand-up-arg2 Inv-loop μ-loop) → getD (c .before .before .
 up c =
     let m = c .before .before .before .before .before .before .before .before .before in
     parent-lt (shape-ordered (m .before .pre .0)) (m .loop .i - 1) (omega arith) (omega arith)
-
-cast-hand-up : tie.Need-cast-hand-up Inv-loop μ-loop
-cast-hand-up c = record { fits = omega (arith, up c) }
 
 hand-up-requires : tie.Need-hand-up-requires Inv-loop μ-loop
 hand-up-requires c κs =
@@ -84,9 +74,6 @@ loop-again c =
           (rw (c .before .before .before .before .along .ensures) (along (rowsOf A) (FitsIn B A) i _ (A .axis i) refl f)) (c .hand-up .ensures .1),
     )
 
-fits-requires-2 : tie.Need-fits-requires-2 Inv-loop μ-loop
-fits-requires-2 c κs = c .before .before .before .before .pre .1 .0
-
 returns : tie.Need-returns Inv-loop μ-loop
 returns c = λ B p e.
     let m = c .before .before .before .before in
@@ -103,6 +90,6 @@ returns c = λ B p e.
 
 pub fit-turns-spec : {M : Type 1} → statement M
 fit-turns-spec = tie.close (tie.spec Inv-loop μ-loop (λ c. search needs) loop-holds (λ c. omega arith) (λ c. omega arith) (λ c. omega arith)
-    (λ c. omega arith) (λ c. omega arith) (λ c. omega arith) (λ c. omega arith) fits-requires (λ c. omega arith) along-requires (λ c. omega arith)
-    cast-hand-up hand-up-requires (λ c. omega arith) loop-again (λ c. omega arith) (λ c. omega arith) (λ c. omega arith) fits-requires-2
-    (λ c. omega arith) returns)
+    (λ c. omega arith) (λ c. omega arith) (λ c. omega arith) (λ c. omega arith) (λ c κs. c .before .before .before .before .pre .1 .0)
+    (λ c. omega arith) (λ c κs. tt) (λ c. omega arith) (λ c. record { fits = omega (arith, up c) }) hand-up-requires (λ c. omega arith) loop-again
+    (λ c. omega arith) (λ c. omega arith) (λ c. omega arith) (λ c κs. c .before .before .before .before .pre .1 .0) (λ c. omega arith) returns)

@@ -23,8 +23,7 @@ loop-again : tie.Need-loop-again Inv-loop μ-loop
 loop-again c = let l = c .before .loop in (
   omega arith,
   simp length-set (l .inv .1),
-  rw (l .inv .2)
-      (fill-more (l .k) 0 (now (c .before .before .args .work)) (omega arith)),
+  rw (l .inv .2) (fill-more (l .k) 0 (now (c .before .before .args .work)) (omega arith)),
 )
 
 returns : tie.Need-returns Inv-loop μ-loop

@@ -18,10 +18,7 @@ fit-turns-requires c κs =
     .before .before in
     let n : ℕ = length (now (s .args .parents)) in (
       s .pre .1 .0,
-      (
-        rw (e, cleared-length (2 * n) (now (s .args .work)) (s .pre .1 .1)) (s .pre .1 .1),
-        λ q l. rw e (cleared-zero (2 * n) (now (s .args .work)) q l),
-      ),
+      (rw (e, cleared-length (2 * n) (now (s .args .work)) (s .pre .1 .1)) (s .pre .1 .1), λ q l. rw e (cleared-zero (2 * n) (now (s .args .work)) q l)),
     )
 
 returns : tie.Need-returns

@@ -35,9 +35,6 @@ shared-slice-read-fits c = omega (arith, c .before .before .before .before .befo
 slice-read-fits : tie.Need-slice-read-fits Inv-loop μ-loop
 slice-read-fits c = omega (arith, c .before .before .before .before .before .before .before .before .pre .1 .0, c .before .before .before .before .loop .inv .2)
 
-fits-requires : tie.Need-fits-requires Inv-loop μ-loop
-fits-requires c κs = tt
-
 cast-hand-up : tie.Need-cast-hand-up Inv-loop μ-loop
 cast-hand-up c = omega (arith, c .shared-slice-known4 .given (c .before .before .before .before .before .before .before .loop .i - 1))
 
@@ -76,21 +73,6 @@ shared-slice-read-fits-2 c = let s = c .before .before .before .before .before .
 room : (l : tie.At-loop Inv-loop μ-loop) → 1 < length (l .loop .work)
 room l = let s = l .before .before .before .before in omega (arith, s .pre .0 .some, s .pre .1 .0, l .loop .inv .2)
 
-slice-read-fits-2 : tie.Need-slice-read-fits-2 Inv-loop μ-loop
-slice-read-fits-2 c = omega (arith, room (c .before .before .before))
-
-slice-read-fits-3 : tie.Need-slice-read-fits-3 Inv-loop μ-loop
-slice-read-fits-3 c = room (c .before .before .before .before)
-
-fits-requires-2 : tie.Need-fits-requires-2 Inv-loop μ-loop
-fits-requires-2 c κs = tt
-
-slice-write-work : tie.Need-slice-write-work Inv-loop μ-loop
-slice-write-work c = omega (arith, room (c .before .before .before .before .before))
-
-slice-write-work-2 : tie.Need-slice-write-work-2 Inv-loop μ-loop
-slice-write-work-2 c = simp length-set (room (c .before .before .before .before .before))
-
 same-length : tie.Need-same-length Inv-loop μ-loop
 same-length c = simp length-set (c .before .before .before .before .before .loop .inv .2)
 
@@ -108,6 +90,8 @@ returns c =
 
 pub fit-turns-spec : {M : Type 1} → statement M
 fit-turns-spec = tie.close (tie.spec Inv-loop μ-loop loop-holds (λ c. omega arith) (λ c. omega arith) (λ c. omega arith) (λ c. omega arith)
-    slice-read-below (λ c. omega arith) shared-slice-read-fits (λ c. omega arith) (λ c. omega arith) slice-read-fits fits-requires (λ c. omega arith)
-    (λ c. omega arith) cast-hand-up hand-up-requires (λ c. omega arith) loop-again shared-slice-read-fits-2 slice-read-fits-2 slice-read-fits-3
-    fits-requires-2 slice-write-work slice-write-work-2 same-length returns)
+    slice-read-below (λ c. omega arith) shared-slice-read-fits (λ c. omega arith) (λ c. omega arith) slice-read-fits (λ c κs. tt) (λ c. omega arith)
+    (λ c. omega arith) cast-hand-up hand-up-requires (λ c. omega arith) loop-again shared-slice-read-fits-2
+    (λ c. omega (arith, room (c .before .before .before))) (λ c. room (c .before .before .before .before)) (λ c κs. tt)
+    (λ c. omega (arith, room (c .before .before .before .before .before))) (λ c. simp length-set (room (c .before .before .before .before .before)))
+    same-length returns)

@@ -7,25 +7,12 @@ use borrow.Author.Needs.{needs}
 use Rattle.marking.proofs.hand_up.Statement.{statement}
 use Rattle.marking.proofs.hand_up.Tie as tie
 
-slice-read-work : tie.Need-slice-read-work
-slice-read-work c = simp length-set (omega arith)
-
-slice-write-work-3 : tie.Need-slice-write-work-3
-slice-write-work-3 c = simp length-set (omega arith)
-
-slice-read-work-2 : tie.Need-slice-read-work-2
-slice-read-work-2 c = simp length-set (omega arith)
-
-slice-write-work-4 : tie.Need-slice-write-work-4
-slice-write-work-4 c = simp length-set (omega arith)
-
 returns : tie.Need-returns
-returns c =
-    let a = c .before .before .args in
-    handed-is (now (a .work)) (a .i) (a .p) (a .fit) (a .below) (a .seed) (omega arith) (omega arith)
+returns c = let a = c .before .before .args in handed-is (now (a .work)) (a .i) (a .p) (a .fit) (a .below) (a .seed) (omega arith) (omega arith)
 
 pub hand-up-spec : {M : Type 1} → statement M
 hand-up-spec = tie.close (tie.spec (λ c. search needs) (λ c. search needs) (λ c. search needs) (λ c. search needs) (λ c. search needs)
-    (λ c. search needs) (λ c. search needs) (λ c. search needs) (λ c. search needs) slice-read-work (λ c. search needs) (λ c. search needs)
-    slice-write-work-3 (λ c. search needs) (λ c. search needs) (λ c. search needs) slice-read-work-2 (λ c. search needs) (λ c. search needs)
-    (λ c. search needs) slice-write-work-4 (λ c. search needs) returns)
+    (λ c. search needs) (λ c. search needs) (λ c. search needs) (λ c. search needs) (λ c. simp length-set (omega arith)) (λ c. search needs)
+    (λ c. search needs) (λ c. simp length-set (omega arith)) (λ c. search needs) (λ c. search needs) (λ c. search needs)
+    (λ c. simp length-set (omega arith)) (λ c. search needs) (λ c. search needs) (λ c. search needs) (λ c. simp length-set (omega arith))
+    (λ c. search needs) returns)

@@ -29,28 +29,10 @@ room l i h = omega (arith, l .before .pre i h, l .loop .inv .1 .same-length)
 loop-holds : tie.Need-loop-holds Inv-loop μ-loop
 loop-holds c = (omega arith, marked-start _ _)
 
-cast-node : tie.Need-cast-node Inv-loop μ-loop
-cast-node c = slots _ (c .shared-slice-known .given _) .0
-
-mul-work : tie.Need-mul-work Inv-loop μ-loop
-mul-work c = slots _ (c .shared-slice-known .given _) .1
-
-add-work : tie.Need-add-work Inv-loop μ-loop
-add-work c = slots _ (c .shared-slice-known .given _) .2
-
-mul-work-2 : tie.Need-mul-work-2 Inv-loop μ-loop
-mul-work-2 c = slots _ (c .shared-slice-known .given _) .3
-
-slice-write-work : tie.Need-slice-write-work Inv-loop μ-loop
-slice-write-work c = room (c .before .before) _ (omega arith)
-
 loop-again : tie.Need-loop-again Inv-loop μ-loop
 loop-again c =
     let l = c .before .before in
     (omega arith, rw (add-one (l .loop .k)) (marked-more _ _ (l .loop .k) (l .loop .work) (l .loop .inv .1) (room l (l .loop .k) (omega arith))))
-
-same-length : tie.Need-same-length Inv-loop μ-loop
-same-length c = c .before .loop .inv .1 .same-length
 
 returns : tie.Need-returns Inv-loop μ-loop
 returns c =
@@ -61,5 +43,8 @@ returns c =
     (marked-all _ _ _ m, marked-others _ _ _ m)
 
 pub mark-starts-spec : {M : Type 1} → statement M
-mark-starts-spec = tie.close (tie.spec Inv-loop μ-loop loop-holds (λ c. omega arith) (λ c. omega arith) cast-node mul-work add-work mul-work-2
-    slice-write-work (λ c. omega arith) (λ c. omega arith) loop-again same-length returns)
+mark-starts-spec = tie.close (tie.spec Inv-loop μ-loop loop-holds (λ c. omega arith) (λ c. omega arith)
+    (λ c. slots _ (c .shared-slice-known .given _) .0) (λ c. slots _ (c .shared-slice-known .given _) .1)
+    (λ c. slots _ (c .shared-slice-known .given _) .2) (λ c. slots _ (c .shared-slice-known .given _) .3)
+    (λ c. room (c .before .before) _ (omega arith)) (λ c. omega arith) (λ c. omega arith) loop-again (λ c. c .before .loop .inv .1 .same-length)
+    returns)

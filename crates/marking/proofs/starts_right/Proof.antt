@@ -20,25 +20,19 @@ abbrev μ-loop : tie.MeasureT-loop
 loop-holds : tie.Need-loop-holds Inv-loop μ-loop
 loop-holds c = (omega arith, ascends-start _ _)
 
-cast-x : tie.Need-cast-x Inv-loop μ-loop
-cast-x c = omega (arith, c .shared-slice-known .given (c .before .before .loop .k))
-
 returns : tie.Need-returns Inv-loop μ-loop
 returns c =
     let l = c .before .before .before in
     let x = getD (now (l .before .args .starts)) (l .loop .k) 0 in
     λ d e. (
       λ t. absurd t,
-      λ w. ⊎-elim
-          (λ q. ascends-low _ _ (l .loop .k) (l .loop .least) (l .loop .inv .1) (q .taken) (omega arith) (w .ascending))
+      λ w. ⊎-elim (λ q. ascends-low _ _ (l .loop .k) (l .loop .least) (l .loop .inv .1) (q .taken) (omega arith) (w .ascending))
           (λ q. omega (arith, leb-true (l .before .args .n) x (q .1 .taken), w .nodes (l .loop .k) (omega arith)))
           (c .if1 .came),
     )
 
 add-least : tie.Need-add-least Inv-loop μ-loop
-add-least c =
-    let l = c .before .before .before .before in
-    omega (arith, c .before .before .shared-slice-known .given (l .loop .k))
+add-least c = let l = c .before .before .before .before in omega (arith, c .before .before .shared-slice-known .given (l .loop .k))
 
 loop-again : tie.Need-loop-again Inv-loop μ-loop
 loop-again c =
@@ -59,5 +53,6 @@ returns-2 c =
     )
 
 pub starts-right-spec : {M : Type 1} → statement M
-starts-right-spec = tie.close (tie.spec Inv-loop μ-loop loop-holds (λ c. omega arith) (λ c. omega arith) cast-x returns add-least (λ c. omega arith)
-    (λ c. omega arith) loop-again returns-2)
+starts-right-spec = tie.close (tie.spec Inv-loop μ-loop loop-holds (λ c. omega arith) (λ c. omega arith)
+    (λ c. omega (arith, c .shared-slice-known .given (c .before .before .loop .k))) returns add-least (λ c. omega arith) (λ c. omega arith) loop-again
+    returns-2)

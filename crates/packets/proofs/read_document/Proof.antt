@@ -45,9 +45,7 @@ header : (x : tie.After-n) → Head (bytes x) 0 2048
 header x = head-of (bytes x) 0 2048 (passes-front (headChecks (bytes x) 0 2048) (listsCheck (bytes x) _ _) (nodes x .0))
 
 few : (x : tie.After-n) → (x .n .given .0 .0 ≤ length (own x .0)) × (x .n .given .0 .0 ≤ length (own x .1))
-few x =
-    let l = nodes-few (header x) in
-    (omega (arith, nodes x .1 .0, l, read x .read-nodes .kept), omega (arith, nodes x .1 .0, l, read x .read-nodes .kept))
+few x = let l = nodes-few (header x) in (omega (arith, nodes x .1 .0, l, read x .read-nodes .kept), omega (arith, nodes x .1 .0, l, read x .read-nodes .kept))
 
 fronts : (x : tie.After-n) → documentOf (take (x .n .given .0 .0) (own x .0)) (take (x .n .given .0 .0) (own x .1)) ≡ packetDocument (bytes x)
 fronts x = document-fronts (bytes x) (own x .0) (own x .1) _ _ (x .n .given .0 .0) (nodes x .1 .0) (nodes x .1 .1) (nodes x .1 .2)
@@ -100,9 +98,7 @@ returns-3 c =
     )
 
 copy-requires : tie.Need-copy-requires
-copy-requires c κs =
-    let x = counted (c .before .before .before .before) in
-    (few x .0, omega arith, omega (arith, nodes x .1 .0, nodes-few (header x)))
+copy-requires c κs = let x = counted (c .before .before .before .before) in (few x .0, omega arith, omega (arith, nodes x .1 .0, nodes-few (header x)))
 
 copy-requires-2 : tie.Need-copy-requires-2
 copy-requires-2 c κs =

@@ -39,5 +39,4 @@ returns-4 c =
     ((omega arith, (omega arith, ((f / 4, rows), tt))), omega arith)
 
 pub rows-in-spec : {M : Type 1} → statement M
-rows-in-spec = tie.close (tie.spec returns (λ c. search needs) returns-2 (λ c κs. search needs) (λ c. search needs) (λ c. search needs) returns-3
-    returns-4)
+rows-in-spec = tie.close (tie.spec returns (λ c. search needs) returns-2 (λ c κs. search needs) (λ c. search needs) (λ c. search needs) returns-3 returns-4)

@@ -28,9 +28,7 @@ returns-2 : tie.Need-returns-2
 returns-2 c = (inr (valid (c .before), inl ((λ h. omega arith), refl)), refl)
 
 returns-3 : tie.Need-returns-3
-returns-3 c =
-    let x = c .before .before in
-    ((valid (x .before .before .before), (omega arith, tt)), (refl, x .put-document .ensures))
+returns-3 c = let x = c .before .before in ((valid (x .before .before .before), (omega arith, tt)), (refl, x .put-document .ensures))
 
 pub write-document-spec : {M : Type 1} → statement M
 write-document-spec = tie.close (tie.spec (λ c κs. search needs) (λ c. search needs) returns (λ c. search needs) (λ c. omega (arith, valid c .few))

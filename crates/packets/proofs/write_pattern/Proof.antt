@@ -18,26 +18,13 @@ returns c =
     let v = subst (ChecksPattern (k .before .before .args .p)) (c .before .r .given .1) (k .check-pattern .ensures) in
     (⊎-elim inl (λ w. absurd (w .1)) (v .0), refl)
 
-mul-size : tie.Need-mul-size
-mul-size c = omega (arith, valid (c .before) .few)
-
-add-size : tie.Need-add-size
-add-size c = omega (arith, valid (c .before) .few)
-
-add-size-2 : tie.Need-add-size-2
-add-size-2 c = omega (arith, valid (c .before) .few)
-
 returns-2 : tie.Need-returns-2
 returns-2 c = (inr (valid (c .before .before), inl ((λ h. omega arith), refl)), refl)
 
-put-pattern-requires : tie.Need-put-pattern-requires
-put-pattern-requires c κs = (valid (c .before .before .before) .few, omega arith)
-
 returns-3 : tie.Need-returns-3
-returns-3 c =
-    let x = c .before .before in
-    ((valid (x .before .before .before .before), (omega arith, tt)), (refl, x .put-pattern .ensures))
+returns-3 c = let x = c .before .before in ((valid (x .before .before .before .before), (omega arith, tt)), (refl, x .put-pattern .ensures))
 
 pub write-pattern-spec : {M : Type 1} → statement M
-write-pattern-spec = tie.close (tie.spec (λ c κs. search needs) (λ c. search needs) returns (λ c. search needs) mul-size add-size add-size-2 returns-2
-    put-pattern-requires (λ c. search needs) returns-3)
+write-pattern-spec = tie.close (tie.spec (λ c κs. search needs) (λ c. search needs) returns (λ c. search needs)
+    (λ c. omega (arith, valid (c .before) .few)) (λ c. omega (arith, valid (c .before) .few)) (λ c. omega (arith, valid (c .before) .few)) returns-2
+    (λ c κs. (valid (c .before .before .before) .few, omega arith)) (λ c. search needs) returns-3)

@@ -15,9 +15,7 @@ loop-holds : tie.Need-loop-holds Inv-loop μ-loop
 loop-holds c = (omega arith, doubling-none _ _ _ _)
 
 loop-again : tie.Need-loop-again Inv-loop μ-loop
-loop-again c =
-    let m = c .before .before in
-    (omega arith, doubling-more _ _ _ _ (m .loop .u) (m .loop .table) (omega arith) (omega arith) (m .loop .inv .1))
+loop-again c = let m = c .before .before in (omega arith, doubling-more _ _ _ _ (m .loop .u) (m .loop .table) (omega arith) (omega arith) (m .loop .inv .1))
 
 returns : tie.Need-returns Inv-loop μ-loop
 returns c = doubling-all _ _ _ _ _ _ (omega arith) (c .before .loop .inv .1)

@@ -40,24 +40,6 @@ loop-holds c = (
 few : (c : tie.In-loop Inv-loop μ-loop) → getD (c .before .before .args .t1 .parent) (c .before .loop .t) 0 < 64
 few c = parent-few (shapeOf (c .before .before .args .t1)) (c .before .before .pre .0) (c .before .loop .t) (c .before .loop .inv .0) (c .loop-test .taken)
 
-cast-s : tie.Need-cast-s Inv-loop μ-loop
-cast-s c = record { fits = omega (arith, few (c .before)) }
-
-one-bit-requires-2 : tie.Need-one-bit-requires-2 Inv-loop μ-loop
-one-bit-requires-2 c κs = few (c .before .before)
-
-mul-children : tie.Need-mul-children Inv-loop μ-loop
-mul-children c = record { fits = omega (arith, few (c .before .before .before)) }
-
-element-copy-out-children : tie.Need-element-copy-out-children Inv-loop μ-loop
-element-copy-out-children c = few (c .before .before .before)
-
-mul-children-2 : tie.Need-mul-children-2 Inv-loop μ-loop
-mul-children-2 c = record { fits = omega (arith, few (c .before .before .before .before)) }
-
-element-write-children : tie.Need-element-write-children Inv-loop μ-loop
-element-write-children c = few (c .before .before .before .before)
-
 add-if2 : tie.Need-add-if2 Inv-loop μ-loop
 add-if2 c = record { fits = omega (arith, few (c .before .before .before .before .before .before)) }
 
@@ -78,23 +60,18 @@ loop-again c =
       simp length-set (i .3),
       rw own (keyed-more f 1 t (m .loop .children) (i .0) (omega (arith, few (c .before .before .before .before .before .before .before))) (i .4)),
       rw up (pointed-more f t (m .loop .parents) (i .0) (omega arith) (i .5)),
-      ⊎-elim
-          (λ w. rw (w .1, own) (among-more 1 (x 0) (m .loop .child) t (i .0) (w .0 .taken) (i .6)))
+      ⊎-elim (λ w. rw (w .1, own) (among-more 1 (x 0) (m .loop .child) t (i .0) (w .0 .taken) (i .6)))
           (λ w. rw (w .1) (among-skip 1 (x 0) (m .loop .child) t (w .0 .left) (i .6)))
           (c .before .if1 .came),
-      ⊎-elim
-          (λ w. rw (w .2) (among-skip 1 (x 1) (m .loop .descendant) t (λ e. omega (arith, w .0 .taken, e)) (i .7)))
+      ⊎-elim (λ w. rw (w .2) (among-skip 1 (x 1) (m .loop .descendant) t (λ e. omega (arith, w .0 .taken, e)) (i .7)))
           (λ w. rw (w .2, own) (among-more 1 (x 1) (m .loop .descendant) t (i .0)
           (⊎-elim (λ e. absurd (w .0 .left e)) (λ e. e) (m .before .pre .0 .steps t
           (c .before .before .before .before .before .before .before .loop-test .taken) .axis)) (i .7)))
           (c .before .if1 .came),
-      ⊎-elim
-          (λ w. rw (w .1, own) (among-more 1 q (m .loop .next) t (i .0) (w .0 .taken) (i .8)))
+      ⊎-elim (λ w. rw (w .1, own) (among-more 1 q (m .loop .next) t (i .0) (w .0 .taken) (i .8)))
           (λ w. rw (w .1) (among-skip 1 q (m .loop .next) t (w .0 .left) (i .8)))
           (c .if2 .came),
-      ⊎-elim
-          (λ w. rw (w .2) (forking-skip f t (m .loop .forked) (w .0 .taken) (i .9)))
-          (λ w. rw (w .2, up) (forking-more f t (m .loop .forked) (i .9)))
+      ⊎-elim (λ w. rw (w .2) (forking-skip f t (m .loop .forked) (w .0 .taken) (i .9))) (λ w. rw (w .2, up) (forking-more f t (m .loop .forked) (i .9)))
           (c .if2 .came),
     )
 
@@ -115,6 +92,8 @@ returns c =
     )
 
 pub gather-spec : {M : Type 1} → statement M
-gather-spec = tie.close (tie.spec Inv-loop μ-loop loop-holds (λ c. omega arith) cast-s (λ c κs. omega arith) one-bit-requires-2 mul-children
-    element-copy-out-children mul-children-2 element-write-children (λ c. omega arith) (λ c. omega arith) (λ c. omega arith) add-if2
-    (λ c. omega arith) (λ c. omega arith) loop-again returns)
+gather-spec = tie.close (tie.spec Inv-loop μ-loop loop-holds (λ c. omega arith) (λ c. record { fits = omega (arith, few (c .before)) })
+    (λ c κs. omega arith) (λ c κs. few (c .before .before)) (λ c. record { fits = omega (arith, few (c .before .before .before)) })
+    (λ c. few (c .before .before .before)) (λ c. record { fits = omega (arith, few (c .before .before .before .before)) })
+    (λ c. few (c .before .before .before .before)) (λ c. omega arith) (λ c. omega arith) (λ c. omega arith) add-if2 (λ c. omega arith)
+    (λ c. omega arith) loop-again returns)

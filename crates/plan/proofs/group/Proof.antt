@@ -46,9 +46,7 @@ loop-again c =
     (c .if1 .came)
 
 returns : tie.Need-returns Inv-loop μ-loop
-returns c =
-    let e : c .before .loop .s ≡ c .before .before .args .n = omega arith in
-    rw e at (c .before .loop .inv .4)
+returns c = let e : c .before .loop .s ≡ c .before .before .args .n = omega arith in rw e at (c .before .loop .inv .4)
 
 pub group-spec : {M : Type 1} → statement M
 group-spec = tie.close (tie.spec Inv-loop μ-loop loop-holds (λ c. omega arith) (λ c. omega arith) (λ c. omega arith) (λ c. omega arith)

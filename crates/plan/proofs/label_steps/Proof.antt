@@ -29,20 +29,8 @@ loop-holds c = (
 small : (c : tie.In-loop Inv-loop μ-loop) → getD (c .before .before .args .t1 .label) (c .before .loop .s) 0 < 65536
 small c = label-small (shapeOf (c .before .before .args .t1)) (c .before .before .pre .0) (c .before .loop .s) (c .loop-test .taken)
 
-cast-b : tie.Need-cast-b Inv-loop μ-loop
-cast-b c = record { fits = omega (arith, small (c .before)) }
-
-mul-high : tie.Need-mul-high Inv-loop μ-loop
-mul-high c = record { fits = omega (arith, small (c .before .before .before)) }
-
-element-copy-out-high : tie.Need-element-copy-out-high Inv-loop μ-loop
-element-copy-out-high c = omega (arith, small (c .before .before .before))
-
 mul-high-2 : tie.Need-mul-high-2 Inv-loop μ-loop
 mul-high-2 c = record { fits = omega (arith, small (c .before .before .before .before)) }
-
-element-write-high : tie.Need-element-write-high Inv-loop μ-loop
-element-write-high c = omega (arith, small (c .before .before .before .before))
 
 loop-again : tie.Need-loop-again Inv-loop μ-loop
 loop-again c =
@@ -63,6 +51,8 @@ returns c =
     labelled-all (shapeOf (c .before .before .args .t1)) (c .before .loop .low) (c .before .loop .high) (rw e at (i .3)) (rw e at (i .4))
 
 pub label-steps-spec : {M : Type 1} → statement M
-label-steps-spec = tie.close (tie.spec Inv-loop μ-loop loop-holds (λ c. omega arith) (λ c. omega arith) (λ c. omega arith) cast-b
-    (λ c κs. omega arith) (λ c. omega arith) (λ c. omega arith) (λ c. omega arith) (λ c. omega arith) mul-high element-copy-out-high mul-high-2
-    element-write-high (λ c. omega arith) (λ c. omega arith) loop-again returns)
+label-steps-spec = tie.close (tie.spec Inv-loop μ-loop loop-holds (λ c. omega arith) (λ c. omega arith) (λ c. omega arith)
+    (λ c. record { fits = omega (arith, small (c .before)) }) (λ c κs. omega arith) (λ c. omega arith) (λ c. omega arith) (λ c. omega arith)
+    (λ c. omega arith) (λ c. record { fits = omega (arith, small (c .before .before .before)) })
+    (λ c. omega (arith, small (c .before .before .before))) mul-high-2 (λ c. omega (arith, small (c .before .before .before .before)))
+    (λ c. omega arith) (λ c. omega arith) loop-again returns)

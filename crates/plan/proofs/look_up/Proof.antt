@@ -22,9 +22,7 @@ unfolding lookUp
 loop-again c = let m = c .before .before in (omega arith, rw (add-one (m .loop .c), m .loop .inv .1))
 
 returns : tie.Need-returns Inv-loop μ-loop
-returns c =
-    let e : c .before .loop .c ≡ 8 = omega arith in
-    rw e at (c .before .loop .inv .1)
+returns c = let e : c .before .loop .c ≡ 8 = omega arith in rw e at (c .before .loop .inv .1)
 
 pub look-up-spec : {M : Type 1} → statement M
 look-up-spec = tie.close (tie.spec Inv-loop μ-loop loop-holds (λ c. omega arith) (λ c. omega arith) (λ c. omega arith) (λ c. omega arith)

@@ -24,16 +24,13 @@ loop-again c =
     let m = c .before .before .before in
     let s = m .before .args in (
       omega arith,
-      ⊎-elim
-          (λ w. rw (w .2) (reached-more (now (s .forks)) (now (s .later)) (s .m) (m .loop .x) (m .loop .k) (w .0 .taken) (m .loop .inv .1)))
+      ⊎-elim (λ w. rw (w .2) (reached-more (now (s .forks)) (now (s .later)) (s .m) (m .loop .x) (m .loop .k) (w .0 .taken) (m .loop .inv .1)))
           (λ w. rw (w .1) (reached-skip (now (s .forks)) (now (s .later)) (s .m) (m .loop .x) (m .loop .k) (w .0 .left) (m .loop .inv .1)))
           (c .if1 .came),
     )
 
 returns : tie.Need-returns Inv-loop μ-loop
-returns c =
-    let e : c .before .loop .k ≡ c .before .before .args .n = omega arith in
-    rw e at (c .before .loop .inv .1)
+returns c = let e : c .before .loop .k ≡ c .before .before .args .n = omega arith in rw e at (c .before .loop .inv .1)
 
 pub reached-spec : {M : Type 1} → statement M
 reached-spec = tie.close (tie.spec Inv-loop μ-loop loop-holds (λ c. omega arith) (λ c. omega arith) (λ c. omega arith) (λ c. omega arith)

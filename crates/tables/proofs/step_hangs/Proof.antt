@@ -12,16 +12,11 @@ Inv-loop parents s p a₀ a = Climbs (listed parents) s a
 abbrev μ-loop : tie.MeasureT-loop
 μ-loop parents s p a₀ a = a
 
-cast-p : tie.Need-cast-p Inv-loop μ-loop
-cast-p c = omega (arith, c .shared-slice-known .given (c .before .args .s))
-
 returns : tie.Need-returns Inv-loop μ-loop
 returns c = first-hangs (listed (now (c .before .before .args .parents))) 255 (c .before .before .args .s) (omega arith)
 
 loop-holds : tie.Need-loop-holds Inv-loop μ-loop
-loop-holds c =
-    let s = c .before .before in
-    climb-starts (listed (now (s .args .parents))) 255 (s .args .s) (omega arith) (s .pre .0) (s .pre .1)
+loop-holds c = let s = c .before .before in climb-starts (listed (now (s .args .parents))) 255 (s .args .s) (omega arith) (s .pre .0) (s .pre .1)
 
 cast-a : tie.Need-cast-a Inv-loop μ-loop
 cast-a c = omega (arith, c .shared-slice-known2 .given (c .before .before .loop .a))
@@ -44,5 +39,5 @@ returns-2 c =
     climb-ends (listed (now (s .args .parents))) 255 (s .args .s) (omega arith) (s .pre .0) (s .pre .1) (c .before .loop .inv) (c .loop-test .left)
 
 pub step-hangs-spec : {M : Type 1} → statement M
-step-hangs-spec = tie.close (tie.spec Inv-loop μ-loop (λ c. search needs) cast-p returns (λ c. search needs) loop-holds (λ c. search needs) cast-a
-    loop-less loop-again returns-2)
+step-hangs-spec = tie.close (tie.spec Inv-loop μ-loop (λ c. search needs) (λ c. omega (arith, c .shared-slice-known .given (c .before .args .s)))
+    returns (λ c. search needs) loop-holds (λ c. search needs) cast-a loop-less loop-again returns-2)

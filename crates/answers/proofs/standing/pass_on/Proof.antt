@@ -10,8 +10,7 @@ use Rattle.answers.proofs.standing.pass_on.Statement.{statement}
 use Rattle.answers.proofs.standing.pass_on.Tie as tie
 
 returns : tie.Need-returns
-returns c = λ A p few.
-    marks-or _ _ (Led (Child (A .tree)) _) _ (c .before .led .ensures A p few)
+returns c = λ A p few. marks-or _ _ (Led (Child (A .tree)) _) _ (c .before .led .ensures A p few)
     (marks-and _ _ (λ t. bit (c .before .before .args .over) t ≡ 1) (OfAxis A 1) (marks-bits (c .before .before .args .over)) (p .sets-of .descendant))
 
 pub pass-on-spec : {M : Type 1} → statement M

@@ -23,8 +23,7 @@ returns c =
     λ labels v r. c .before .before .before .before .place-turns .ensures A labels v
     (record {
       sets-of = g .gather .ensures .0;
-      down = spread-marks (Child (A .tree)) _ (g .gather .last .1 .0) _ (g .gather .ensures .1 .0)
-          (k .spread .ensures);
+      down = spread-marks (Child (A .tree)) _ (g .gather .last .1 .0) _ (g .gather .ensures .1 .0) (k .spread .ensures);
     }) refl r
 
 pub place-nodes-spec : {M : Type 1} → statement M

@@ -10,9 +10,7 @@ use Rattle.answers.proofs.standing.place_turn.Statement.{statement}
 use Rattle.answers.proofs.standing.place_turn.Tie as tie
 
 above-requires : tie.Need-above-requires
-above-requires c κs =
-    let s = c .before .before .before in
-    (s .pre .0 .0, λ h. omega (arith, s .pre .0 .1, s .pre .1 h))
+above-requires c κs = let s = c .before .before .before in (s .pre .0 .0, λ h. omega (arith, s .pre .0 .1, s .pre .1 h))
 
 returns : tie.Need-returns
 returns c =

@@ -33,8 +33,7 @@ loop-holds c =
       refl,
       refl,
       omega arith,
-      λ A labels v k o r.
-          (down-ready A _ _ _ r, listed-start A _ (Marked (now (s .args .work))) (k .sets-of .valid) _),
+      λ A labels v k o r. (down-ready A _ _ _ r, listed-start A _ (Marked (now (s .args .work))) (k .sets-of .valid) _),
     )
 
 place-turn-requires : tie.Need-place-turn-requires Inv-loop μ-loop
@@ -50,8 +49,7 @@ note-requires c κs =
       omega (arith, s .pre .0 .3, m .loop .inv .3, m .loop .inv .4),
       omega (arith, s .pre .0 .1, m .loop .inv .4),
       omega (arith, s .pre .0 .1),
-      omega
-          (arith, s .pre .0 .0),
+      omega (arith, s .pre .0 .0),
     )
 
 loop-again : tie.Need-loop-again Inv-loop μ-loop
@@ -74,12 +72,6 @@ loop-again c =
           (t .0, listed-noted A _ (Marked (now (s .args .work))) (k .sets-of .valid) _ _ (m .loop .i) (m .loop .c) _ _ _ _ o (t .1) n l (u .1)),
     )
 
-same-length : tie.Need-same-length Inv-loop μ-loop
-same-length c = c .before .loop .inv .2
-
-same-length-2 : tie.Need-same-length-2 Inv-loop μ-loop
-same-length-2 c = c .before .loop .inv .3
-
 returns : tie.Need-returns Inv-loop μ-loop
 returns c =
     let m = c .before in
@@ -91,4 +83,4 @@ returns c =
 
 pub place-turns-spec : {M : Type 1} → statement M
 place-turns-spec = tie.close (tie.spec Inv-loop μ-loop loop-holds place-turn-requires note-requires (λ c. omega arith) (λ c. omega arith) loop-again
-    same-length same-length-2 returns)
+    (λ c. c .before .loop .inv .2) (λ c. c .before .loop .inv .3) returns)

@@ -58,13 +58,11 @@ next-image-requires : tie.Need-next-image-requires Inv-loop μ-loop
 next-image-requires c κs =
     let v = c .before .before .before .before .before .before .before .before .pre .0 in (
       (v .0 .few, omega (arith, v .1 .few), small (c .before .before .before .before)),
-      parent-few
-          (shapeOf (c .before .before .before .before .before .before .before .before .args .a)) (v .0),
+      parent-few (shapeOf (c .before .before .before .before .before .before .before .before .args .a)) (v .0),
     )
 
 -- what was picked, and that something was
-picks : (c : tie.After-next-image Inv-loop μ-loop)
-    → let m = c .before .before .before .before .before .before in
+picks : (c : tie.After-next-image Inv-loop μ-loop) → let m = c .before .before .before .before .before .before in
     let b = shapeOf (m .before .before .before .args .t2) in
     Picks (ImageAt (shapeOf (m .before .before .before .args .a)) (now (m .before .before .before .args .fit)) (m .loop .t) (b .axis (m .loop .t))
     (m .loop .inv .2 .0 (b .tree .parent (m .loop .t)))) (c .next-image .result)
@@ -83,9 +81,6 @@ found c =
     let i = m .loop .inv .2 in
     image-found _ _ (s .pre .0 .1) (s .pre .0 .0) (now (s .args .fit)) (s .pre .1 .0) (m .loop .t) (i .0) (m .loop .inv .0) (omega arith) (i .2)
     (c .next-image .result) (picks c)
-
-cast-t21 : tie.Need-cast-t21 Inv-loop μ-loop
-cast-t21 c = record { fits = omega (arith, found c) }
 
 array-set-from-mapping-2 : tie.Need-array-set-from-mapping-2 Inv-loop μ-loop
 array-set-from-mapping-2 c = omega (arith, c .before .before .before .before .before .before .before .before .before .pre .0 .1 .few)
@@ -115,5 +110,5 @@ returns c =
 
 pub choose-spec : {M : Type 1} → statement M
 choose-spec = tie.close (tie.spec Inv-loop μ-loop (λ c. search needs) (λ c. search needs) loop-holds (λ c. omega arith) (λ c. search needs)
-    element-copy-out-q cast-q (λ c. omega arith) next-image-requires cast-t21 array-set-from-mapping-2 (λ c. omega arith) (λ c. omega arith)
-    loop-again returns)
+    element-copy-out-q cast-q (λ c. omega arith) next-image-requires (λ c. record { fits = omega (arith, found c) }) array-set-from-mapping-2
+    (λ c. omega arith) (λ c. omega arith) loop-again returns)

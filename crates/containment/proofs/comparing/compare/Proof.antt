@@ -9,8 +9,7 @@ use Rattle.containment.proofs.comparing.compare.Statement.{statement}
 use Rattle.containment.proofs.comparing.compare.Tie as tie
 
 -- the step picked is the smallest that may take step 0
-picks : (c : tie.After-first-image)
-    → let s = c .before .before .before .before .before .before in
+picks : (c : tie.After-first-image) → let s = c .before .before .before .before .before .before in
     Picks (λ j. BeginsIn (shapeOf (s .args .t2)) (shapeOf (s .args .t1)) j × FitsIn (shapeOf (s .args .t2)) (shapeOf (s .args .t1)) j 0)
     (c .first-image .result)
 picks c =

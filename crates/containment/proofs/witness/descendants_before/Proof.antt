@@ -32,21 +32,16 @@ add-d c =
         arith,
         descendants-le (shapeOf (m .before .args .t1)) (axes v) (m .loop .s) (omega arith),
         v .few,
-        ⊎-elim
-            {C = getD (m .before .args .t1 .axis) (m .loop .s) 0 ≤ 1} (λ e. omega arith) (λ e. omega arith) (v .steps (m .loop .s) (omega arith) .axis),
+        ⊎-elim {C = getD (m .before .args .t1 .axis) (m .loop .s) 0 ≤ 1} (λ e. omega arith) (λ e. omega arith) (v .steps (m .loop .s) (omega arith) .axis),
       );
     }
 
 loop-again : tie.Need-loop-again Inv-loop μ-loop
 unfolding descendants
-loop-again c =
-    let m = c .before .before in
-    (omega arith, rw add-one (omega (arith, m .loop .inv .1)))
+loop-again c = let m = c .before .before in (omega arith, rw add-one (omega (arith, m .loop .inv .1)))
 
 returns : tie.Need-returns Inv-loop μ-loop
-returns c =
-    let e : c .before .loop .s ≡ c .before .before .args .k = omega arith in
-    rw e at (c .before .loop .inv .1)
+returns c = let e : c .before .loop .s ≡ c .before .before .args .k = omega arith in rw e at (c .before .loop .inv .1)
 
 pub descendants-before-spec : {M : Type 1} → statement M
 descendants-before-spec = tie.close (tie.spec Inv-loop μ-loop loop-holds (λ c. omega arith) (λ c. search needs) add-d (λ c. omega arith)

@@ -7,11 +7,8 @@ use Rattle.containment.proofs.witness.hook_of.Tie as tie
 returns : tie.Need-returns
 returns c = search needs
 
-element-copy-out-result : tie.Need-element-copy-out-result
-element-copy-out-result c = c .before .pre (omega arith)
-
 returns-2 : tie.Need-returns-2
 returns-2 c = search needs
 
 pub hook-of-spec : {M : Type 1} → statement M
-hook-of-spec = tie.close (tie.spec returns (λ c. search needs) element-copy-out-result returns-2)
+hook-of-spec = tie.close (tie.spec returns (λ c. search needs) (λ c. c .before .pre (omega arith)) returns-2)

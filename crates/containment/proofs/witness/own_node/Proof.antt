@@ -21,11 +21,8 @@ own c =
 few : (c : tie.After-descendants-before) → ownNode (shapeOf (c .before .args .a)) (c .before .args .s) < 128
 few c = own-few (shapeOf (c .before .args .a)) (c .before .pre .0) (c .before .args .s) (c .before .pre .1)
 
-add-result : tie.Need-add-result
-add-result c = record { fits = omega (arith, few c, own c) }
-
 returns : tie.Need-returns
 returns c = (own c, omega (arith, few c, own c))
 
 pub own-node-spec : {M : Type 1} → statement M
-own-node-spec = tie.close (tie.spec (λ c. search needs) (λ c κs. search needs) add-result returns)
+own-node-spec = tie.close (tie.spec (λ c. search needs) (λ c κs. search needs) (λ c. record { fits = omega (arith, few c, own c) }) returns)

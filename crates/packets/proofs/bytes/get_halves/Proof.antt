@@ -33,9 +33,7 @@ loop-again c =
     )
 
 returns : tie.Need-returns Inv-loop μ-loop
-returns c =
-    let e : c .before .loop .k ≡ c .before .before .before .before .args .n = omega arith in
-    rw e at (c .before .loop .inv .2)
+returns c = let e : c .before .loop .k ≡ c .before .before .before .before .args .n = omega arith in rw e at (c .before .loop .inv .2)
 
 pub get-halves-spec : {M : Type 1} → statement M
 get-halves-spec = tie.close (tie.spec Inv-loop μ-loop loop-holds

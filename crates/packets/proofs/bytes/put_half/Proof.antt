@@ -11,9 +11,6 @@ use borrow.Author.Needs.{needs}
 use Rattle.packets.proofs.bytes.put_half.Statement.{statement}
 use Rattle.packets.proofs.bytes.put_half.Tie as tie
 
-slice-write-out-2 : tie.Need-slice-write-out-2
-slice-write-out-2 c = simp length-set (omega arith)
-
 returns : tie.Need-returns
 returns c =
     let x = c .args in
@@ -21,5 +18,5 @@ returns c =
     rw e (sets-eq (high (x .x) ∷ low (x .x) ∷ []) (now (x .out)) (x .at) (c .pre))
 
 pub put-half-spec : {M : Type 1} → statement M
-put-half-spec = tie.close (tie.spec (λ c. search needs) (λ c. search needs) (λ c. search needs) (λ c. search needs) slice-write-out-2
-    (λ c. search needs) returns)
+put-half-spec = tie.close (tie.spec (λ c. search needs) (λ c. search needs) (λ c. search needs) (λ c. search needs)
+    (λ c. simp length-set (omega arith)) (λ c. search needs) returns)

@@ -11,9 +11,6 @@ use borrow.Author.Needs.{needs}
 use Rattle.station.proofs.code.number_of.Statement.{statement}
 use Rattle.station.proofs.code.number_of.Tie as tie
 
-plus-requires : tie.Need-plus-requires
-plus-requires c κs = subst Small (c .before .a .given .1) (c .before .before .before .pre)
-
 returns : tie.Need-returns
 returns c =
     let n = c .before .before .a .given .0 .0 in
@@ -30,5 +27,5 @@ returns-2 c =
     (ap (λ z. toZ w64 (ofZ w64 z)) (c .minus .ensures) ∙ neg-result k (omega arith) ∙ ap (λ j. negℤ (pos j)) (c .before .refusal-number .ensures))
 
 pub number-of-spec : {M : Type 1} → statement M
-number-of-spec = tie.close (tie.spec (λ c. search needs) plus-requires (λ c. search needs) (λ c κs. search needs) (λ c κs. search needs) returns
-    returns-2)
+number-of-spec = tie.close (tie.spec (λ c. search needs) (λ c κs. subst Small (c .before .a .given .1) (c .before .before .before .pre))
+    (λ c. search needs) (λ c κs. search needs) (λ c κs. search needs) returns returns-2)

@@ -23,9 +23,7 @@ both x = call x .read-nodes-and-pattern .ensures .read (x .read .given .0 .0) (x
 
 few : (x : tie.After-read) → (x .read .given .0 .0 ≤ length (call x .read-nodes-and-pattern .last .1 .1 .0))
     × (x .read .given .0 .0 ≤ length (call x .read-nodes-and-pattern .last .1 .1 .1 .0))
-few x =
-    let l = both-few (both x) in
-    (omega (arith, l, call x .read-nodes-and-pattern .kept), omega (arith, l, call x .read-nodes-and-pattern .kept))
+few x = let l = both-few (both x) in (omega (arith, l, call x .read-nodes-and-pattern .kept), omega (arith, l, call x .read-nodes-and-pattern .kept))
 
 put-answers-requires : tie.Need-put-answers-requires
 put-answers-requires c κs =

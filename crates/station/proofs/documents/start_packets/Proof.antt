@@ -26,9 +26,7 @@ both x = call x .read-nodes-and-pattern .ensures .read (x .read .given .0 .0) (x
 
 few : (x : tie.After-read) → (x .read .given .0 .0 ≤ length (call x .read-nodes-and-pattern .last .1 .1 .0))
     × (x .read .given .0 .0 ≤ length (call x .read-nodes-and-pattern .last .1 .1 .1 .0))
-few x =
-    let l = both-few (both x) in
-    (omega (arith, l, call x .read-nodes-and-pattern .kept), omega (arith, l, call x .read-nodes-and-pattern .kept))
+few x = let l = both-few (both x) in (omega (arith, l, call x .read-nodes-and-pattern .kept), omega (arith, l, call x .read-nodes-and-pattern .kept))
 
 -- past the tests of the start bytes they are even, and there are no more start nodes than nodes
 abbrev counted : tie.Else2 → tie.After-read
