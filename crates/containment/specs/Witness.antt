@@ -64,7 +64,10 @@ parentsFor A s = byAxis (A .axis s) (hook A s ∷ []) (hook A s ∷ (s + descend
 unfoldable pub labelsFor : Shape → ℕ → ℕ → List ℕ
 labelsFor A l s = byAxis (A .axis s) (A .label s ∷ []) (l ∷ A .label s ∷ [])
 
--- the witness of A with the fresh label l: what each step writes, in the order of the steps
+-- the witness of A with the fresh label l: what each step writes, in the order of the steps. For //strip[control]//frame with the labels 2, 5 and 3, and l = 1:
+--   step 0, descendant   nodes 0 (label 1, the root) and 1 (strip, on 0)
+--   step 1, child        node 2 (control, on 1)
+--   step 2, descendant   nodes 3 (label 1, on 1) and 4 (frame, on 3), which is the answer node
 unfoldable pub witnessOf : Shape → ℕ → Document
 witnessOf A l = documentOf (blocks (parentsFor A) (A .tree .size)) (blocks (labelsFor A l) (A .tree .size))
 

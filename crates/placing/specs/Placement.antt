@@ -22,7 +22,8 @@ pub record Takes (X : Rows) (l i : ℕ) : Type 0 where
   pub here : i < X .tree .size
   pub fits : LabelFits l (X .label i)
 
--- a step at row i, its parent at row j: a child step goes along a child edge, a descendant step to a proper descendant over any edges
+-- a step at row i, its parent at row j: a child step goes along a child edge, a descendant step to a proper descendant over any edges. With strip//frame as
+-- the rows, strip at row 0: a descendant step whose parent is at 0 may be at row 1, a child step may not, since the edge to row 1 is a descendant edge
 abbrev pub Goes : Rows → ℕ → ℕ → ℕ → Type 0
 Goes X zero j i = Child (X .tree) j i × (X .axis i ≡ 0)
 Goes X (suc a) j i = Below (X .tree) j i
