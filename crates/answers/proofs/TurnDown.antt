@@ -23,8 +23,7 @@ module _ (A : Shape) (va : ValidShape A) (d : Document) (First : ℕ → Type 0)
       → Downward A d First i before work allowed → Marks over (Over A d First va i)
   over-marks zero over before work allowed l up z y u = rw (z refl) (marks-none (Over A d First va 0) (λ s w. omega (arith, w .1 .late)))
   over-marks (suc i) over before work allowed l up z y u =
-      let h : 0 < suc i = omega arith in
-      let p : ℕ = getD (d .parents) (suc i) 0 in
+      let h : 0 < suc i = omega arith in let p : ℕ = getD (d .parents) (suc i) 0 in
       let c : Child (nodesOf d .tree) p (suc i) = record { late = h; here = l; up = refl } in
       rw (y h) (marks-to (getD allowed p 0) (Allowed A d First p) (Over A d First va (suc i)) (λ s w. (p, c, w))
       (λ s w. subst (λ (q : ℕ). Allowed A d First q s) (sym (w .1 .up)) (w .2)) (u .allows p (up h)))

@@ -26,13 +26,11 @@ module _ (A : Shape) (d : Document) (First : ℕ → Type 0) where
       go : (k : ℕ) → Dec (k < 2 * nodeCount d) → Dec (k % 2 ≡ 0) → getD w k 0 ≡ getD z k 0
       go k (no h) e = a .rest k (omega arith) ∙ sym (b .rest k (omega arith))
       go k (yes h) (yes e) =
-          let i : ℕ = k / 2 in
-          let m : i < nodeCount d = omega arith in
+          let i : ℕ = k / 2 in let m : i < nodeCount d = omega arith in
           subst (λ (x : ℕ). getD w x 0 ≡ getD z x 0) {x = 2 * i} (omega arith)
           (marks-unique (getD w (2 * i) 0) (getD z (2 * i) 0) (FitsAt A d i) (a .fits i m) (b .fits i m))
       go k (yes h) (no e) =
-          let i : ℕ = k / 2 in
-          let m : i < nodeCount d = omega arith in
+          let i : ℕ = k / 2 in let m : i < nodeCount d = omega arith in
           subst (λ (x : ℕ). getD w x 0 ≡ getD z x 0) {x = 2 * i + 1} (omega arith)
           (marks-unique (getD w (2 * i + 1) 0) (getD z (2 * i + 1) 0) (PlacedAt A d First i) (a .placed i m) (b .placed i m))
 

@@ -153,8 +153,7 @@ module _ (bs : List ℕ) (n : ℕ) (m : 8716 ≤ n) (l : n < length bs) where
   long-front text (query r p h e) =
       query r (document-right (p .0), pattern-right (view-begins (p .0)) (p .1)) (pattern-front (query-begins (p .0) (p .1)) r h) e
   long-front text (extra p h e) =
-      let v = view-begins (p .0 .0) in
-      let q = query-begins (p .0 .0) (p .0 .1) in
+      let v = view-begins (p .0 .0) in let q = query-begins (p .0 .0) (p .0 .1) in
       extra ((document-right (p .0 .0), pattern-right v (p .0 .1)), pattern-right q (p .1)) (omega (arith, q .low, pattern-low q (p .1))) e
   long-front text (answered p h a) =
       let q = query-begins (p .0 .0) (p .0 .1) in

@@ -41,10 +41,8 @@ module _ (A B : Pattern) (parents₀ labels₀ : List ℕ) where
   unfolding witnessOf
   call-apart r parents labels m i h e =
       let w = subst (λ (a : Containment). AnswersContainment A B parents₀ labels₀ a (r .mapping) parents labels) e h in
-      let p = w .0 in
-      let va : ValidPattern A = p .0 in
-      let vb : ValidPattern B = p .1 .0 in
-      let x = w .1 in
+      let p = w .0 in let va : ValidPattern A = p .0 in
+      let vb : ValidPattern B = p .1 .0 in let x = w .1 in
       let n : ℕ = A .count in
       let ps : take m parents ≡ witnessOf (shapeOf A) (x .label) .parents
       = ap (take m) (x .parent-list) ∙ take-at (witnessOf (shapeOf A) (x .label) .parents) (drop m parents₀) m

@@ -75,8 +75,7 @@ module _ (A B : Shape) (l : ℕ) (va : ValidShape A) (vb : ValidShape B) (f : Fr
 pub contained-iff : (A B : Shape) → ValidShape A → ValidShape B → Contained A B ↔ ((m : ℕ → ℕ) × Maps B A m)
 contained-iff A B va vb = (
   λ h.
-      let l : ℕ = freshLabel A B in
-      let f : Fresh A B l = fresh-label A B va vb in
+      let l : ℕ = freshLabel A B in let f : Fresh A B l = fresh-label A B va vb in
       witness-complete A B l va vb f (h (witnessOf A l) (witness-valid A l va (f .label)) (answerNode A) (witness-answers A l va (f .label))),
   λ w. maps-sound (w .1),
 )

@@ -70,8 +70,7 @@ module _ (B A : Shape) (vb : ValidShape B) (va : ValidShape A) where
   pub least-mapping : (m : ℕ → ℕ) → Maps B A m → LeastMap B A (leastMapping B A)
   unfolding leastMapping
   least-mapping m h =
-      let R : Probe = mapProbe B A in
-      let a : Able (mapTask B A) 0 (m 0) = maps-able m h in
+      let R : Probe = mapProbe B A in let a : Able (mapTask B A) 0 (m 0) = maps-able m h in
       record {
         maps = fit-maps (best (B .tree) R) (best-fit R (mapTask B A) (BeginsIn B A) probes (m 0) (h .first) a)
             (best-first R (mapTask B A) (BeginsIn B A) probes (m 0) (h .first) a);

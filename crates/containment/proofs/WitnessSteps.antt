@@ -70,8 +70,7 @@ module _ (A : Shape) (va : ValidShape A) where
   pub front-lengths : (l s m : ℕ) (parents₀ labels₀ parents labels : List ℕ) → s ≤ A .tree .size → Front A l s m parents₀ labels₀ parents labels
       → witnessSize A ≤ length parents₀ → witnessSize A ≤ length labels₀ → (length parents ≡ length parents₀) × (length labels ≡ length labels₀)
   front-lengths l s m parents₀ labels₀ parents labels h f room wide =
-      let b = descendants-mono A s (A .tree .size) h in
-      let e = f .place in
+      let b = descendants-mono A s (A .tree .size) h in let e = f .place in
       let p = parents-length A (axes va) s h in
       let q = labels-length A l (axes va) s h in (
         rw (f .parent-list) (simp (length-append, length-drop) (omega arith)),
@@ -90,16 +89,14 @@ module _ (A : Shape) (va : ValidShape A) where
     by-axis : (A .axis s ≡ 0) ⊎ (A .axis s ≡ 1) → Front A l (suc s) r parents₀ labels₀ parents′ labels′
     unfolding blocks descendants parentsFor labelsFor
     by-axis (inl e) =
-        let o = w .one e in
-        let b = front-room s h in
+        let o = w .one e in let b = front-room s h in
         record {
           place = omega (arith, o .0, f .place);
           parent-list = o .1 ∙ rw (f .parent-list, o .0, e) (put-next (blocks (parentsFor A) s) parents₀ m (hook A s) pl (omega (arith, f .place)));
           label-list = o .2 ∙ rw (f .label-list, o .0, e) (put-next (blocks (labelsFor A l) s) labels₀ m (A .label s) ll (omega (arith, f .place)));
         }
     by-axis (inr e) =
-        let o = w .two e in
-        let b = front-room s h in
+        let o = w .two e in let b = front-room s h in
         let z : m ≡ s + descendants A s = f .place in
         record {
           place = omega (arith, o .0, f .place);

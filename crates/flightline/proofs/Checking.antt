@@ -75,11 +75,9 @@ test-sound d vd (working A ws) t =
           (working-of (shapeOf A) d (begins (shapeOf A)) (Begins (shapeOf A)) (valid A (p .0)) vd (tells-begins (shapeOf A))),
     )
 test-sound d vd (contained A B ms) t =
-    let p = and-both (isPattern (shapeOf A)) _ t in
-    let q = and-both (isPattern (shapeOf B)) _ (p .1) in
+    let p = and-both (isPattern (shapeOf A)) _ t in let q = and-both (isPattern (shapeOf B)) _ (p .1) in
     let r = and-both (mapsInto (shapeOf B) (shapeOf A)) _ (q .1) in
-    let va : ValidPattern A = valid A (p .0) in
-    let vb : ValidPattern B = valid B (q .0) in
+    let va : ValidPattern A = valid A (p .0) in let vb : ValidPattern B = valid B (q .0) in
     let m = tells-maps (shapeOf B) (shapeOf A) vb va .says (r .0) in (
       va,
       vb,
@@ -87,13 +85,11 @@ test-sound d vd (contained A B ms) t =
       (leastMapping (shapeOf B) (shapeOf A), least-mapping (shapeOf B) (shapeOf A) vb va (m .0) (m .1), same-list _ ms (r .1)),
     )
 test-sound d vd (apart A B l w i) t =
-    let p = and-both (isPattern (shapeOf A)) _ t in
-    let q = and-both (isPattern (shapeOf B)) _ (p .1) in
+    let p = and-both (isPattern (shapeOf A)) _ t in let q = and-both (isPattern (shapeOf B)) _ (p .1) in
     let r = and-both (not (mapsInto (shapeOf B) (shapeOf A))) _ (q .1) in
     let s = and-both (eqb (freshLabel (shapeOf A) (shapeOf B)) l) _ (r .1) in
     let u = and-both (sameDocument (witnessOf (shapeOf A) l) w) _ (s .1) in
-    let va : ValidPattern A = valid A (p .0) in
-    let vb : ValidPattern B = valid B (q .0) in
+    let va : ValidPattern A = valid A (p .0) in let vb : ValidPattern B = valid B (q .0) in
     let f : Fresh (shapeOf A) (shapeOf B) l = subst (Fresh (shapeOf A) (shapeOf B)) (eqb→eq _ l (s .0)) (fresh-label (shapeOf A) (shapeOf B) va vb) in
     let e : witnessOf (shapeOf A) l ≡ w = same-document (witnessOf (shapeOf A) l) w (u .0) in
     let n : answerNode (shapeOf A) ≡ i = eqb→eq (answerNode (shapeOf A)) i (u .1) in (
@@ -109,17 +105,13 @@ test-sound d vd (apart A B l w i) t =
           (subst₂ (Answer (shapeOf B)) (sym e) (sym n) a),
     )
 test-sound d vd (equal A B) t =
-    let p = and-both (isPattern (shapeOf A)) _ t in
-    let q = and-both (isPattern (shapeOf B)) _ (p .1) in
+    let p = and-both (isPattern (shapeOf A)) _ t in let q = and-both (isPattern (shapeOf B)) _ (p .1) in
     let r = and-both (mapsInto (shapeOf B) (shapeOf A)) _ (q .1) in
-    let va : ValidPattern A = valid A (p .0) in
-    let vb : ValidPattern B = valid B (q .0) in
+    let va : ValidPattern A = valid A (p .0) in let vb : ValidPattern B = valid B (q .0) in
     (va, vb, record { to = tells-contained (shapeOf B) (shapeOf A) vb va .says (r .0); back = tells-contained (shapeOf A) (shapeOf B) va vb .says (r .1) })
 test-sound d vd (handed Q U C) t =
-    let p = and-both (isPattern (shapeOf Q)) _ t in
-    let q = and-both (isPattern (shapeOf U)) _ (p .1) in
-    let r = and-both (ltb (Q .count) 33) _ (q .1) in
-    let s = and-both (ltb (U .count) 33) _ (r .1) in
+    let p = and-both (isPattern (shapeOf Q)) _ t in let q = and-both (isPattern (shapeOf U)) _ (p .1) in
+    let r = and-both (ltb (Q .count) 33) _ (q .1) in let s = and-both (ltb (U .count) 33) _ (r .1) in
     let u = and-both (rewritable Q U) _ (s .1) in
     let nq : Q .count ≤ 32 = omega (arith, ltb→lt (Q .count) 33 (r .0)) in
     let nu : U .count ≤ 32 = omega (arith, ltb→lt (U .count) 33 (s .0)) in
@@ -127,8 +119,7 @@ test-sound d vd (handed Q U C) t =
     let e : C ≡ candidateOf Q U = same-pattern C (candidateOf Q U) (u .1) in
     ((valid Q (p .0), (valid U (q .0), ((nq, nu), tt))), rw e (k .0), rw e (k .1))
 test-sound d vd (started C ss xs) t =
-    let p = and-both (isPattern (shapeOf C)) _ t in
-    let q = and-both (eqb (shapeOf C .axis 0) 0) _ (p .1) in
+    let p = and-both (isPattern (shapeOf C)) _ t in let q = and-both (eqb (shapeOf C .axis 0) 0) _ (p .1) in
     let r = and-both (isStartList d ss) _ (q .1) in (
       valid C (p .0),
       eqb→eq (shapeOf C .axis 0) 0 (q .0),
@@ -136,12 +127,9 @@ test-sound d vd (started C ss xs) t =
       subst (Lists (Started (In ss) (shapeOf C) d)) (same-list _ xs (r .1)) (answers-of (shapeOf C) d (isIn ss) (In ss) (valid C (p .0)) vd (tells-in ss)),
     )
 test-sound d vd (nothing Q U) t =
-    let p = and-both (isPattern (shapeOf Q)) _ t in
-    let q = and-both (isPattern (shapeOf U)) _ (p .1) in
-    let r = and-both (ltb (Q .count) 33) _ (q .1) in
-    let s = and-both (ltb (U .count) 33) _ (r .1) in
-    let vq : ValidPattern Q = valid Q (p .0) in
-    let vu : ValidPattern U = valid U (q .0) in
+    let p = and-both (isPattern (shapeOf Q)) _ t in let q = and-both (isPattern (shapeOf U)) _ (p .1) in
+    let r = and-both (ltb (Q .count) 33) _ (q .1) in let s = and-both (ltb (U .count) 33) _ (r .1) in
+    let vq : ValidPattern Q = valid Q (p .0) in let vu : ValidPattern U = valid U (q .0) in
     let nq : Q .count ≤ 32 = omega (arith, ltb→lt (Q .count) 33 (r .0)) in
     let nu : U .count ≤ 32 = omega (arith, ltb→lt (U .count) 33 (s .0)) in
     let n = not-rewritable Q U vq vu nq nu (tells-not (tells-self {b = rewritable Q U}) .says (s .1)) in

@@ -70,8 +70,7 @@ module _ (A B C : Pattern) (ab l bc r : JoinAnswer) (jab : Joins A B ab) (jl : J
     -- and gives one pattern
     pub called-assoc : ab .answer ≡ checked.Right → l .answer ≡ checked.Right → l .pattern ≡ r .pattern
     called-assoc f g =
-        let x = left-right .0 (f, g) in
-        let y = join-assoc-accepted A B C .0 x in
+        let x = left-right .0 (f, g) in let y = join-assoc-accepted A B C .0 x in
         let w = right-right .1 y in
         called-gives (ab .pattern) C l jl g ∙ ap (λ p. joinOf p C) (called-gives A B ab jab f) ∙ join-assoc A B C (x .0) (x .1) (y .0) (y .1)
         ∙ sym (called-gives A (bc .pattern) r jr (w .1) ∙ ap (joinOf A) (called-gives B C bc jbc (w .0)))

@@ -49,8 +49,7 @@ column-of f n xs e h = column-ext f (λ i. getD xs i 0) n h ∙ ap (column (λ i
 pub document-written-then-read : {d : Document} → ValidDocument d → packetDocument (documentPacket d) ≡ d
 unfolding packetDocument nodeBytes
 document-written-then-read {d} v =
-    let bs : List ℕ = documentPacket d in
-    let n : nodesIn bs ≡ nodeCount d = nodes-in-packet d in
+    let bs : List ℕ = documentPacket d in let n : nodesIn bs ≡ nodeCount d = nodes-in-packet d in
     ap₂ (λ x y. documentOf x y)
     (column-of (λ i. half bs (3 + 4 * i)) (nodesIn bs) (d .parents) n
     (λ i l. node-half d i 0 (3 + 4 * i) (omega arith) (omega arith) (omega arith) ∙ half-of-bytes (getD (d .parents) i 0)))
@@ -83,8 +82,7 @@ document-sized-unique z = omega (arith, z .field)
 node-read : (bs : List ℕ) → Bytes bs → (i : ℕ) → i < nodesIn bs → nodeBytes (packetDocument bs) i ≡ four (λ j. getD bs j 0) (3 + 4 * i)
 unfolding nodeBytes packetDocument four
 node-read bs h i l =
-    let a : 5 + 4 * i ≡ 3 + 4 * i + 2 = omega arith in
-    let b : 5 + 4 * i + 1 ≡ 3 + 4 * i + 3 = omega arith in
+    let a : 5 + 4 * i ≡ 3 + 4 * i + 2 = omega arith in let b : 5 + 4 * i + 1 ≡ 3 + 4 * i + 3 = omega arith in
     cc (
       column-at (λ i. half bs (3 + 4 * i)) (nodesIn bs) i l,
       column-at (λ i. half bs (5 + 4 * i)) (nodesIn bs) i l,
@@ -98,8 +96,7 @@ node-read bs h i l =
 pub document-read-then-written : (bs : List ℕ) → Bytes bs → (n : ℕ) → Sized bs 0 2048 n → getD bs 0 0 ≡ 1 → documentPacket (packetDocument bs) ≡ bs
 unfolding documentPacket packetDocument blocks
 document-read-then-written bs h n z w =
-    let q : n ≡ nodesIn bs = document-sized-unique z in
-    let l : 4 * n ≡ half bs 1 = omega (arith, z .field) in
+    let q : n ≡ nodesIn bs = document-sized-unique z in let l : 4 * n ≡ half bs 1 = omega (arith, z .field) in
     cc (
       column-length (λ i. half bs (3 + 4 * i)) (nodesIn bs),
       high-half bs h 1,

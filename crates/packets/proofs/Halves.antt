@@ -53,8 +53,7 @@ four f o = f o ∷ f (o + 1) ∷ f (o + 2) ∷ f (o + 3) ∷ []
 column-step : (f : ℕ → ℕ) (m : ℕ) → column f m ++ four f m ≡ column f (m + 4)
 unfolding blocks four
 column-step f m =
-    let a : m + 1 ≡ suc m = omega arith in
-    let b : m + 2 ≡ suc (suc m) = omega arith in
+    let a : m + 1 ≡ suc m = omega arith in let b : m + 2 ≡ suc (suc m) = omega arith in
     let c : m + 3 ≡ suc (suc (suc m)) = omega arith in
     let d : m + 4 ≡ suc (suc (suc (suc m))) = omega arith in
     rw (a, b, c, d) (simp append-assoc)

@@ -91,8 +91,7 @@ pattern-packet-agree {A} {B} e = cc (blocks-ext (stepBytes A) (stepBytes B) (A .
 step-read : (bs : List ℕ) → Bytes bs → (s : ℕ) → stepBytes (packetShape bs) s ≡ four (λ j. getD bs j 0) (4 + 4 * s)
 unfolding stepBytes packetShape four
 step-read bs h s =
-    let a : 5 + 4 * s ≡ 4 + 4 * s + 1 = omega arith in
-    let b : 6 + 4 * s ≡ 4 + 4 * s + 2 = omega arith in
+    let a : 5 + 4 * s ≡ 4 + 4 * s + 1 = omega arith in let b : 6 + 4 * s ≡ 4 + 4 * s + 2 = omega arith in
     let c : 6 + 4 * s + 1 ≡ 4 + 4 * s + 3 = omega arith in
     cc (high-half bs h (6 + 4 * s), low-half bs h (6 + 4 * s))
 

@@ -33,8 +33,7 @@ read-then-write bs r before after c b h e w =
 pub write-then-read : (p : Pattern) (before after : List ℕ) (c : ℕ) (r : PatternRead) → Clean p → WritesPattern p before (Count c) after
     → ReadsPattern (take c after) r → (r .answer ≡ Right) × (r .pattern ≡ p)
 write-then-read p before after c r k w h =
-    let v : ValidPattern p = w .0 .0 in
-    let bs : List ℕ = patternPacket (shapeOf p) in
+    let v : ValidPattern p = w .0 .0 in let bs : List ℕ = patternPacket (shapeOf p) in
     let is : PatternRead = record { answer = Right; pattern = p } in
     let g : ReadsPattern bs r = subst (λ xs. ReadsPattern xs r) (written-front p before after c w) h in
     let e : r ≡ is = reads-pattern-unique bs r is g (pattern-packet-passes v, sym (written-then-read p v k)) in

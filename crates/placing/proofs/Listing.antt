@@ -36,8 +36,7 @@ module _ (P : ℕ → Type 0) where
   agree : (xs ys : List ℕ) → Lists P xs → Lists P ys → (k : ℕ) → k ≤ length xs → (k ≤ length ys) × ((j : ℕ) → j < k → getD xs j 0 ≡ getD ys j 0)
   agree xs ys a b zero l = (omega arith, λ j h. absurd (omega arith))
   agree xs ys a b (suc k) l =
-      let r = agree xs ys a b k (omega arith) in
-      let f = follow xs ys a b k (r .1) l in
+      let r = agree xs ys a b k (omega arith) in let f = follow xs ys a b k (r .1) l in
       let g = follow ys xs b a k (λ j h. sym (r .1 j h)) (f .0) in
       (f .0, λ j h. below-or-at h (r .1 j) (λ e. subst (λ (i : ℕ). getD xs i 0 ≡ getD ys i 0) (sym e) (omega (arith, f .1, g .1))))
 

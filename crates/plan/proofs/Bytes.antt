@@ -81,17 +81,13 @@ module _ (R : ℕ → ℕ → Type 0) (g k m : ℕ) (before after : List ℕ) (i
 
     -- the entries before those that are written
     first : (c v : ℕ) → v < 256 → 256 * c + v < 256 * g + 2 ^ k → (b : ℕ) → bit v b ≡ 1 → 8 * c + b ≢ 8 * g + k
-    first c v hv l b x e =
-        let s = bit-in v 8 b hv x in
-        let f : b ≡ k = omega arith in
-        omega (arith, bit-least v b x, ap (λ y. 2 ^ y) f)
+    first c v hv l b x e = let s = bit-in v 8 b hv x in let f : b ≡ k = omega arith in omega (arith, bit-least v b x, ap (λ y. 2 ^ y) f)
 
     -- and those after them
     last : (c v : ℕ) → v < 256 → ((b : ℕ) → bit v b ≡ 1 → 8 * c + b < 8 * g + k + 1) → 256 * g + 2 * 2 ^ k ≤ 256 * c + v
         → (b : ℕ) → bit v b ≡ 1 → 8 * c + b ≢ 8 * g + k
     last c v hv h l b x e =
-        let s = bit-in v 8 b hv x in
-        let f : c ≡ g = omega arith in
+        let s = bit-in v 8 b hv x in let f : c ≡ g = omega arith in
         omega (arith, bits-lt (suc k) v (λ a y. omega (arith, h a y)), pow-succ' 2 k)
 
     -- an entry that is written, with v = 2 ^ k + u: it has what entry u has, and the step's own
@@ -122,8 +118,7 @@ module _ (R : ℕ → ℕ → Type 0) (g k m : ℕ) (before after : List ℕ) (i
     entries c v hc hv h (yes l) o = stays c v hc hv h (first c v hv l) (d .early (256 * c + v) l)
     entries c v hc hv h (no n) (yes l) = stays c v hc hv h (last c v hv h l) (d .late (256 * c + v) l)
     entries c v hc hv h (no n) (no o) =
-        let p = pow-succ' 2 k in
-        let q = pow-mono {i = suc k} {j = 8} (omega arith) in
+        let p = pow-succ' 2 k in let q = pow-mono {i = suc k} {j = 8} (omega arith) in
         joins c v (v - 2 ^ k) (omega arith) (omega arith) (omega arith)
 
     -- the table has the step
@@ -187,8 +182,7 @@ module _ (R : ℕ → ℕ → Type 0) (n : ℕ) (table : List ℕ) (x : ℕ) (t 
   unfolding lookUp
   led-to zero h = marks-none (LedTo 0) (λ s q. omega (arith, q .1))
   led-to (suc c) h =
-      let v = x / 2 ^ (8 * c) % 256 in
-      let y = getD table (256 * c + v) 0 in
+      let v = x / 2 ^ (8 * c) % 256 in let y = getD table (256 * c + v) 0 in
       marks-to (bitOr (lookUp table x c) y) (λ s. LedTo c s ⊎ Entry R c v s) (LedTo (suc c)) (lead c) (λ s q. split c s q (decLt (q .0) (8 * c)))
       (marks-or (lookUp table x c) y (LedTo c) (Entry R c v) (led-to c (omega arith))
       (t .entry c v (omega arith) (omega arith) (λ b e. few (8 * c + b) (byte-in c b e .1))))

@@ -46,8 +46,7 @@ module _ (A : Shape) (sets : Sets) (g : SetsOf A sets) (c d : ℕ) where
   -- the steps that are missing, by the sets of the axes
   pub marks-missing : Marks (without (bitOr (sets .child) (sets .descendant)) (bitOr (bitAnd c (sets .child)) (bitAnd d (sets .descendant)))) (Missing A c d)
   marks-missing =
-      let x = sets .child in
-      let y = sets .descendant in
+      let x = sets .child in let y = sets .descendant in
       let on = marks-and c x (λ t. bit c t ≡ 1) (OfAxis A 0) (marks-bits c) (g .child) in
       let under = marks-and d y (λ t. bit d t ≡ 1) (OfAxis A 1) (marks-bits d) (g .descendant) in
       marks-to (without (bitOr x y) (bitOr (bitAnd c x) (bitAnd d y))) (λ t. Edge t × (Had t → ⊥)) (Missing A c d) missing-into missing-back
@@ -82,8 +81,7 @@ module _ (A : Shape) (sets : Sets) (g : SetsOf A sets) (c d : ℕ) where
     module _ (forks later : List ℕ) (n : ℕ) (p : Grouped A n forks later) (r : ℕ) (mr : Marks r (Reached forks later x n)) where
       from-group : (s : ℕ) → Reached forks later x n s → Lacks A c d s
       from-group s q =
-          let e = p .each (q .0) (q .1) in
-          let y = getD later (q .0) 0 in
+          let e = p .each (q .0) (q .1) in let y = getD later (q .0) 0 in
           let t = some-bit (bitAnd x y) (q .2) in
           let w = marks-and x y (Missing A c d) (LaterChild A (e .0)) m (e .2) .only (t .0) (t .1) in
           let z : s ≡ e .0 = marks-one (e .0) .only s (subst (λ (u : ℕ). bit u s ≡ 1) (e .1) (q .3)) in
@@ -91,8 +89,7 @@ module _ (A : Shape) (sets : Sets) (g : SetsOf A sets) (c d : ℕ) where
 
       to-group : (s : ℕ) (q : Lacks A c d s) → (s + 1 ≡ q .0 → ⊥) → Reached forks later x n s
       to-group s q e =
-          let a = p .all s (q .0) (q .1, e) in
-          let y = getD later (a .0) 0 in
+          let a = p .all s (q .0) (q .1, e) in let y = getD later (a .0) 0 in
           let b = marks-and x y (λ u. bit x u ≡ 1) (λ u. bit y u ≡ 1) (marks-bits x) (marks-bits y) .put (q .0) (lost s q, a .3) in
           (a .0, a .1, bit-some _ (q .0) b, subst (λ (u : ℕ). bit u s ≡ 1) (sym (a .2)) (bit-pow s))
 

@@ -17,8 +17,7 @@ use Rattle.plan.specs.Leading.{ToParent, Led}
 -- a bit of a number shifted up by one
 pub bit-up : (x s : ℕ) → suc s < 64 → bit (x * 2 ^ 1 % 2 ^ 64) (suc s) ≡ bit x s
 bit-up x s l =
-    let e : x * 2 ^ 1 / 2 ^ 1 ≡ x = mul-div-left x (pow-pos 1) in
-    let f : 1 + s ≡ suc s = omega arith in
+    let e : x * 2 ^ 1 / 2 ^ 1 ≡ x = mul-div-left x (pow-pos 1) in let f : 1 + s ≡ suc s = omega arith in
     bit-mod (x * 2 ^ 1) 64 (suc s) l ∙ ap (bit (x * 2 ^ 1)) (sym f) ∙ sym (bit-shr (x * 2 ^ 1) 1 s) ∙ ap (λ y. bit y s) e
 
 module _ (A : Shape) (v : ValidShape A) (next forked : ℕ) (n : Marks next (Next A)) (f : Forked A forked) where
@@ -59,8 +58,7 @@ module _ (A : Shape) (v : ValidShape A) (next forked : ℕ) (n : Marks next (Nex
 
       put : (t : ℕ) → Led (Child (A .tree)) x t → bit (bitAnd (x * 2 ^ 1 % 2 ^ 64) next) t ≡ 1
       put t q =
-          let s : ℕ = q .0 in
-          let e : s + 1 ≡ t = only-next x s t z (q .1) (q .2) in
+          let s : ℕ = q .0 in let e : s + 1 ≡ t = only-next x s t z (q .1) (q .2) in
           let g : suc s ≡ t = omega arith in
           both .put t (subst (λ y. bit (x * 2 ^ 1 % 2 ^ 64) y ≡ 1) g (bit-up x s (omega (arith, q .2 .here, v .few)) ∙ q .1), child-next s t e (q .2))
 

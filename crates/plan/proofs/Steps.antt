@@ -76,8 +76,7 @@ module _ (A : Shape) where
   -- the two bytes tell whether a label fits
   pub of-label : (low high : List ℕ) (l : ℕ) → Labelled A low high → Marks (bitAnd (getD low (l % 256) 0) (getD high (l / 256) 0)) (OfLabel A l)
   of-label low high l t =
-      let x = getD low (l % 256) 0 in
-      let y = getD high (l / 256) 0 in
+      let x = getD low (l % 256) 0 in let y = getD high (l / 256) 0 in
       let Low : ℕ → Type 0 = λ s. (s < A .tree .size) × (A .label s % 256 ≡ l % 256) in
       let High : ℕ → Type 0 = λ s. (s < A .tree .size) × (A .label s / 256 ≡ l / 256) in
       marks-to (bitAnd x y) (λ s. Low s × High s) (OfLabel A l)

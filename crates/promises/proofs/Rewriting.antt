@@ -45,8 +45,7 @@ handed-serves Q U r h e = subst (λ (a : Rewriting). AnswersRewriting Q U a (r .
 pub handed-answers : (Q U : Pattern) (r : RewritingAnswer) → Rewrites Q U r → r .answer ≡ rewriting.Handed → (d : Document) → ValidDocument d → (i : ℕ)
     → Started (Answer (shapeOf U) d) (shapeOf (r .pattern)) d i ↔ Answer (shapeOf Q) d i
 handed-answers Q U r h e d v i =
-    let s = handed-serves Q U r h e in
-    let j = join-answers U (r .pattern) (s .joinable) d i in
+    let s = handed-serves Q U r h e in let j = join-answers U (r .pattern) (s .joinable) d i in
     (λ a. s .equal .to d v i (j .1 a), λ a. j .0 (s .equal .back d v i a))
 
 -- and is contained in every compensation that serves

@@ -40,8 +40,7 @@ module _ {Q C : Shape} {c : ℕ} (vq : Ordered (Q .tree)) (k : Cut Q c C) (h : c
 
       ok : (t : ℕ) → Takes (rowsOf Q) (E .label t) (φ t) → From (Q .tree) c (φ t) → Takes (rowsOf C) (E .label t) (φ t - c)
       ok t r f =
-          let a : c ≤ φ t = from-le vq c (φ t) f in
-          let b : φ t < c + C .tree .size = k .all (φ t) f in
+          let a : c ≤ φ t = from-le vq c (φ t) f in let b : φ t < c + C .tree .size = k .all (φ t) f in
           let y : c + (φ t - c) ≡ φ t = omega arith in
           record { here = omega arith; fits = record { same = sym (k .label (φ t - c) (omega arith)) ∙ ap (Q .label) y ∙ r .fits .same } }
 

@@ -42,14 +42,12 @@ runs {T} v c (suc k) = go (isFrom T c k) (tells-from T v c k) (runs v c k)
         pick : Dec (c ≡ k) → c + m ≡ k
         pick (yes e) = omega (arith, r .none (omega arith))
         pick (no e) =
-            let l : c < k = omega (arith, from-le v c k w) in
-            let u : ℕ = k - 1 in
+            let l : c < k = omega (arith, from-le v c k w) in let u : ℕ = k - 1 in
             omega (arith, r .late l, r .all u (omega arith) (run v c k u w (omega arith) (omega arith)))
 
     go : (b : Bool) → Tells b (From T c k) → Run T c k m → Run T c (suc k) (cond b 1 0 + m)
     go true t r =
-        let w : From T c k = t .says tt in
-        let e : c + m ≡ k = follows w r in
+        let w : From T c k = t .says tt in let e : c + m ≡ k = follows w r in
         record {
           only = λ t l. below-or-at {u = t} {k = m} (omega arith) (r .only t) (λ z. subst (From T c) {x = k} (omega arith) w);
           all = λ u l x. omega arith;
@@ -110,8 +108,7 @@ module _ {Q C : Shape} {c : ℕ} (v : Ordered (Q .tree)) (k : Cut Q c C) where
 
   pub cut-child : (u w : ℕ) → From (Q .tree) c u → Child (Q .tree) u w → Child (C .tree) (u - c) (w - c) × (C .axis (w - c) ≡ Q .axis w)
   cut-child u w f d =
-      let b : Below (Q .tree) c w = from-child f d in
-      let p : c < w = below-lt v b in
+      let b : Below (Q .tree) c w = from-child f d in let p : c < w = below-lt v b in
       let s : w < c + C .tree .size = k .all w (inr b) in
       let z : c + (w - c) ≡ w = omega arith in (
         record { late = omega arith; here = omega arith; up = omega (arith, k .parent (w - c) (omega arith) (omega arith), ap (Q .tree .parent) z, d .up) },

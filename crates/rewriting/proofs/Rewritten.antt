@@ -50,8 +50,7 @@ module _ (Q U : Pattern) (vq : ValidPattern Q) (vu : ValidPattern U) where
   pub candidate-joinable : {E : Pattern} → Candidate Q U E → Q .count ≤ 32 → U .count ≤ 32 → Joinable U E
   unfolding c
   candidate-joinable {E} k q u =
-      let w : Cut (shapeOf Q) c (shapeOf E) = own-cut k in
-      let v : ValidPattern E = candidate-valid k in
+      let w : Cut (shapeOf Q) c (shapeOf E) = own-cut k in let v : ValidPattern E = candidate-valid k in
       let z : c ≡ c + 0 = omega arith in
       pair-joinable {U = U} {E = E} (record {
         view = vu;
@@ -164,8 +163,7 @@ module _ (Q U E : Pattern) (vq : ValidPattern Q) (vu : ValidPattern U) (s : Serv
     -- and serves
     pub candidate-serves : Q .count ≤ 32 → U .count ≤ 32 → Serves Q U C
     candidate-serves q u =
-        let w : Joinable U C = candidate-joinable Q U vq vu k q u in
-        let p : Pair U C = pair-of U C w in
+        let w : Joinable U C = candidate-joinable Q U vq vu k q u in let p : Pair U C = pair-of U C w in
         record {
           joinable = w;
           equal = record {

@@ -81,8 +81,7 @@ module _ {xs ys : List ℕ} {t : TwoRead} (s : ReadsTwo xs ys t) where
     pub contains-refused : {room₀ room : List ℕ} (r : Refusal) → f .answer ≡ containment.Refused r → room ≡ room₀
         → ContainsPackets xs ys room₀ (counted.Refused r) room
     contains-refused {room₀} r g k =
-        let w = here (containment.Refused r) g .0 in
-        let m = witness-few (right .first .right) in
+        let w = here (containment.Refused r) g .0 in let m = witness-few (right .first .right) in
         let l = length-replicate {A = ℕ} 128 0 in
         let fresh : Refuses (freshCheck A B) r =
         ⊎-elim (λ w. absurd (w .0 (right .first .right))) (λ w. ⊎-elim (λ w. absurd (w .0 (right .second .right)))
@@ -120,8 +119,7 @@ module _ {xs ys : List ℕ} {t : TwoRead} (s : ReadsTwo xs ys t) where
       -- the fronts of the two lists are the witness
       fronts : documentOf (take m parents) (take m labels) ≡ witnessOf (shapeOf A) (apart .1 .label)
       fronts =
-          let w = apart .1 in
-          let l = witness-lengths (right .first .right) (w .label) in
+          let w = apart .1 in let l = witness-lengths (right .first .right) (w .label) in
           ap₂ (λ x y. documentOf x y)
           (ap (take m) (w .parent-list) ∙ take-at (witnessOf (shapeOf A) (w .label) .parents) _ m (l .0 ∙ sym (w .count)))
           (ap (take m) (w .label-list) ∙ take-at (witnessOf (shapeOf A) (w .label) .labels) _ m (l .1 ∙ sym (w .count)))

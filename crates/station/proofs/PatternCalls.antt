@@ -127,8 +127,7 @@ module _ {qs us : List ℕ} {t : TwoRead} (h : ReadsTwo qs us t) where
     pub rewrite-handed : {room₀ room : List ℕ} (a : Counted) → w .answer ≡ rewriting.Handed → WritesPattern (w .pattern) room₀ a room → RewritesPackets qs us
         room₀ a room
     rewrite-handed {room₀} {room} a f x =
-        let n = there rewriting.Handed f in
-        let s : ServesBy Q W (w .pattern) = (n .1, n .2) in
+        let n = there rewriting.Handed f in let s : ServesBy Q W (w .pattern) = (n .1, n .2) in
         let X : ℕ → Type 0 = λ c. Rewritten Q W room₀ c room in
         record {
           says = counted-rest pair (rewritingChecks Q W ++ last room₀) a X (room ≡ room₀) (two-told checked.Right h e .0)
@@ -153,10 +152,8 @@ module _ (bs : List ℕ) (x : PatternRead) (h : ReadsPattern bs x) where
   pub copy-written : {room₀ room : List ℕ} → Bytes bs → x .answer ≡ checked.Right → (a : Counted) → WritesPattern (x .pattern) room₀ a room → CopiesPacket bs
       room₀ a room
   copy-written {room₀} {room} b e a w =
-      let t = pattern-told bs x checked.Right h e in
-      let p = packetPattern bs in
-      let r = read-of bs (t .0) in
-      let same : patternPacket (shapeOf p) ≡ bs = read-then-written bs b r in
+      let t = pattern-told bs x checked.Right h e in let p = packetPattern bs in
+      let r = read-of bs (t .0) in let same : patternPacket (shapeOf p) ≡ bs = read-then-written bs b r in
       let size : lengthOf p ≡ length bs = sym (pattern-packet-length (shapeOf p)) ∙ ap length same in
       let X : ℕ → Type 0 = λ c. (c ≡ length bs) × (room ≡ bs ++ drop c room₀) in
       record {

@@ -74,8 +74,7 @@ module _ (ds ps parents₀ labels₀ parents labels : List ℕ) where
         -- both are right but for the rules
         pub both-right : x .answer ≡ checked.Right → ReadsBoth ds ps parents₀ labels₀ (counted.Count n) (x .pattern) parents labels
         both-right w =
-            let k = counted-nodes .1 in
-            let b = pattern-told ps x checked.Right t w in
+            let k = counted-nodes .1 in let b = pattern-told ps x checked.Right t w in
             told (counted.Count n) (x .pattern)
             (record { header = header-right; checked = b .0; count = k .0; parents-read = k .1; labels-read = k .2; pattern-read = b .1 })
 

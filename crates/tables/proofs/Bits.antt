@@ -40,10 +40,8 @@ bit-xor x y s =
 -- the bits of x that y lacks
 pub bit-without : (x y s : ℕ) → bit (bitXor x (bitAnd x y)) s ≡ bit x s - bit y s
 bit-without x y s =
-    let a = bit-xor x (bitAnd x y) s in
-    let b = bit-and x y s in
-    let hx = bit-lt x s in
-    let hy = bit-lt y s in
+    let a = bit-xor x (bitAnd x y) s in let b = bit-and x y s in
+    let hx = bit-lt x s in let hy = bit-lt y s in
     omega arith
 
 -- the bits of a number shifted down
@@ -54,10 +52,7 @@ bit-shr x k s = rw (shr-shr x k s)
 -- the bits of a number's k low digits
 pub bit-mod : (x k s : ℕ) → s < k → bit (x % 2 ^ k) s ≡ bit x s
 unfolding bit
-bit-mod x k s h =
-    let j = k - s - 1 in
-    let e : k ≡ j + 1 + s = omega arith in
-    rw (e, field x (j + 1) s) (mod-mod-pow (x / 2 ^ s) j 1)
+bit-mod x k s h = let j = k - s - 1 in let e : k ≡ j + 1 + s = omega arith in rw (e, field x (j + 1) s) (mod-mod-pow (x / 2 ^ s) j 1)
 
 -- a number of k digits has no bit from k on
 pub bit-high : (x k s : ℕ) → x < 2 ^ k → k ≤ s → bit x s ≡ 0
@@ -85,10 +80,7 @@ unfolding bit
 bit-above-by t k = rw (pow-add 2 t (suc k), mul-div-right (2 ^ suc k) (pow-pos t), pow-suc 2 k) (omega arith)
 
 pub bit-above : (s t : ℕ) → t < s → bit (2 ^ s) t ≡ 0
-bit-above s t h =
-    let k = s - t - 1 in
-    let e : s ≡ t + suc k = omega arith in
-    rw e (bit-above-by t k)
+bit-above s t h = let k = s - t - 1 in let e : s ≡ t + suc k = omega arith in rw e (bit-above-by t k)
 
 pub bit-other : (s t : ℕ) → (t ≡ s → ⊥) → bit (2 ^ s) t ≡ 0
 bit-other s t h = elim (decLt s t) [ yes b ↦ bit-below s t b | no b ↦ bit-above s t (omega arith) ]

@@ -66,8 +66,7 @@ pattern-of-agree {A} {B} e =
     (A .tree .size) (e .parent) in
     let x : padded (A .axis) (A .tree .size) ≡ padded (B .axis) (A .tree .size) = padded-ext (A .axis) (B .axis) (A .tree .size) (e .axis) in
     let l : padded (A .label) (A .tree .size) ≡ padded (B .label) (A .tree .size) = padded-ext (A .label) (B .label) (A .tree .size) (e .label) in
-    let s : A .tree .size ≡ B .tree .size = e .size in
-    let o : A .output ≡ B .output = e .output in
+    let s : A .tree .size ≡ B .tree .size = e .size in let o : A .output ≡ B .output = e .output in
     cc
 
 -- the table of a shape is as tables are handed out

@@ -25,8 +25,7 @@ place-nodes-requires c κs =
 returns : tie.Need-returns
 returns c =
     let s = c .before .before .before .before .before .before .before .before .before .before .before .before .before .before .before .before in
-    let v = s .pre .1 .0 in
-    let A = shapeOf (s .args .t1) in
+    let v = s .pre .1 .0 in let A = shapeOf (s .args .t1) in
     let room = s .pre .1 .1 .1 in
     let u = c .before .before .before .before .before .before .before .before .before .fit-nodes .ensures in
     found-first A _ _ (Begins A) (s .pre .0) (plain-first A _ (s .pre .0) v _ _ room u) _ _ _ _ _

@@ -40,10 +40,8 @@ returns : tie.Need-returns
 returns c =
     let x = c .before .before .before .before .before .before .before .before .before in
     let s = x .before .before .before .before .before .before .before .before .before .before .before in
-    let v = s .pre .1 .0 in
-    let A = shapeOf (s .args .p) in
-    let u = x .before .before .before .before .fit-nodes .ensures in
-    let m = x .mark-starts in
+    let v = s .pre .1 .0 in let A = shapeOf (s .args .p) in
+    let u = x .before .before .before .before .fit-nodes .ensures in let m = x .mark-starts in
     found-first A _ _ (In (now (s .args .starts))) (s .pre .0) (started-first A _ (s .pre .0) v _ _ (s .pre .1 .1 .1 .1) u (now (s .args .starts))
     (m .last .1 .0) (s .pre .1 .1 .0) (m .kept .1 .0) (m .ensures .0) (m .ensures .1)) _ _ _ _ _
     (found-before A _ _ _ _ _ _ _ _ (m .kept .1 .0 ∙ u .same-length)

@@ -16,8 +16,7 @@ returns-2 c = let x = c .before .before .before .before in next-cut (now (x .arg
 
 returns-3 : tie.Need-returns-3
 returns-3 c =
-    let x = c .before .before .before .before in
-    let e = c .before .get-half .ensures in
+    let x = c .before .before .before .before in let e = c .before .get-half .ensures in
     ap (λ k. x .args .o + (k + 3)) e ∙ next-whole (now (x .args .input)) (x .args .o) (omega (arith, e))
 
 pub next-at-spec : {M : Type 1} → statement M

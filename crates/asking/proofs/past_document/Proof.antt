@@ -56,17 +56,14 @@ query-right x =
 
 put-refused-requires : tie.Need-put-refused-requires
 put-refused-requires c κs =
-    let m = c .before .number-of in
-    let r = c .before .before .before .before .viewed .given .0 .0 in
+    let m = c .before .number-of in let r = c .before .before .before .before .viewed .given .0 .0 in
     let v = c .before .before .before .before .before .before in
     omega (arith, start v .pre .1 .1 .1, refused-short (m .result) viewWord (omega (arith, m .ensures, number-small r)))
 
 returns : tie.Need-returns
 returns c =
-    let told = c .before .before .before .before .before .before .before in
-    let v = told .before .before in
-    let s = start v in
-    let m = c .before .before .before .before .number-of in
+    let told = c .before .before .before .before .before .before .before in let v = told .before .before in
+    let s = start v in let m = c .before .before .before .before .number-of in
     let u = subst (λ z. ReadAt (input v) (s .args .a) z (v .pattern-at .result .pattern)) (told .viewed .given .1) (v .pattern-at .ensures) in
     view-refused (input v) (s .args .a) (s .pre .0) (s .pre .1 .0) (told .viewed .given .0 .0) (v .pattern-at .result .pattern) (m .result) (m .ensures) u
     (c .before .before .put-refused .ensures)
@@ -77,20 +74,16 @@ pattern-at-requires-2 c κs = omega (arith, c .next-at .ensures, query-begins (s
 -- either word has room; which one is written is for the result
 put-refused-requires-2 : tie.Need-put-refused-requires-2
 put-refused-requires-2 c κs =
-    let m = c .before .number-of2 in
-    let told = c .before .before .before .before in
+    let m = c .before .number-of2 in let told = c .before .before .before .before in
     let k : m .result < 10 = omega (arith, m .ensures, number-small (told .queried .given .0 .0)) in
     let s = start (viewed (first (told .before .before))) in
     omega (arith, s .pre .1 .1 .1, refused-short (m .result) queryWord k, refused-short (m .result) viewWord k)
 
 returns-2 : tie.Need-returns-2
 returns-2 c =
-    let told = c .before .before .before .before .before .before .before in
-    let q = told .before .before in
-    let v = viewed (first q) in
-    let s = start v in
-    let n = q .before .next-at in
-    let m = c .before .before .before .before .number-of2 in
+    let told = c .before .before .before .before .before .before .before in let q = told .before .before in
+    let v = viewed (first q) in let s = start v in
+    let n = q .before .next-at in let m = c .before .before .before .before .number-of2 in
     let u = subst (λ z. ReadAt (input v) (n .result) z (q .pattern-at2 .result .pattern)) (told .queried .given .1) (q .pattern-at2 .ensures) in
     query-refused (input v) (s .args .a) (s .pre .0) (s .pre .1 .0) (v .pattern-at .result .pattern) (view-right (first q)) (n .result) (n .ensures)
     (told .queried .given .0 .0) (q .pattern-at2 .result .pattern) (m .result) (m .ensures) u (c .before .before .put-refused2 .ensures)
@@ -105,20 +98,16 @@ put-refused-requires-3 c κs =
 
 returns-3 : tie.Need-returns-3
 returns-3 c =
-    let told = c .before .before .before .before .before .before .before in
-    let q = queried told in
-    let v = viewed (first q) in
-    let s = start v in
-    let n = q .before .next-at in
-    let e = c .before .before .before .before .before .before .next-at2 in
+    let told = c .before .before .before .before .before .before .before in let q = queried told in
+    let v = viewed (first q) in let s = start v in
+    let n = q .before .next-at in let e = c .before .before .before .before .before .before .next-at2 in
     extra-refused (input v) (s .args .a) (s .pre .0) (s .pre .1 .0) (v .pattern-at .result .pattern) (view-right (first q)) (n .result) (n .ensures)
     (q .pattern-at2 .result .pattern) (query-right told) (e .result) (e .ensures)
     (omega (arith, c .before .before .before .before .before .if1 .taken)) (c .before .before .put-refused3 .ensures)
 
 put-answers-requires : tie.Need-put-answers-requires
 put-answers-requires c κs =
-    let told = c .before .before .before in
-    let q = queried told in
+    let told = c .before .before .before in let q = queried told in
     let v = viewed (first q) in
     let s = start v in (
       read-valid (input v) (q .before .next-at .result) (q .pattern-at2 .result .pattern) (query-right told),
@@ -130,12 +119,9 @@ put-answers-requires c κs =
 
 returns-4 : tie.Need-returns-4
 returns-4 c =
-    let told = c .before .before .before .before .before .before in
-    let q = queried told in
-    let v = viewed (first q) in
-    let s = start v in
-    let n = q .before .next-at in
-    let e = c .before .before .before .before .before .next-at2 in
+    let told = c .before .before .before .before .before .before in let q = queried told in
+    let v = viewed (first q) in let s = start v in
+    let n = q .before .next-at in let e = c .before .before .before .before .before .next-at2 in
     all-answered (input v) (s .args .a) (s .pre .0) (s .pre .1 .0) (v .pattern-at .result .pattern) (view-right (first q)) (n .result) (n .ensures)
     (q .pattern-at2 .result .pattern) (query-right told) (e .result) (e .ensures) (documentOf (now (s .args .parents)) (now (s .args .labels)))
     (s .pre .1 .1 .0) (omega (arith, c .before .before .before .before .if1 .left)) (c .before .before .put-answers .ensures)

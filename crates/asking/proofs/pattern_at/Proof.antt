@@ -22,8 +22,7 @@ part-read-pattern-end c = let x = c .before .before in omega (arith, c .next-at 
 
 returns : tie.Need-returns
 returns c =
-    let x = c .before .before .before .before in
-    let n = c .before .before .next-at in
+    let x = c .before .before .before .before in let n = c .before .before .next-at in
     let bs = now (x .args .input) in
     let e : take (n .result - x .args .o) (drop (x .args .o) bs) ≡ packetAt bs (x .args .o) = rw (n .ensures) (part-is bs (x .args .o)) in
     subst (λ l. ReadsPattern l (c .read-pattern .result)) e (c .read-pattern .ensures)

@@ -18,16 +18,14 @@ entry y = y .before .before .before .before .before .before .before .before
 view-short : (y : tie.After-find2) → length (line viewWord (take (y .before .before .before .find .result)
     (y .before .before .before .find .last .1 .1 .1 .0))) ≤ 10251
 view-short y =
-    let x = entry y in
-    let f = y .before .before .before .find in
+    let x = entry y in let f = y .before .before .before .find in
     found-short (x .args .v) (documentOf (now (x .args .parents)) (now (x .args .labels))) (x .pre .1 .0) viewWord (f .result)
     (f .last .1 .1 .1 .0) (x .pre .1 .1 .0) (f .kept .1 .1 .1 .0) (f .ensures)
 
 -- the query's line fits
 query-short : (y : tie.After-find2) → length (line queryWord (take (y .find2 .result) (y .find2 .last .1 .1 .1 .0))) ≤ 10252
 query-short y =
-    let x = entry y in
-    let f = y .find2 in
+    let x = entry y in let f = y .find2 in
     found-short (x .args .q) (documentOf (now (x .args .parents)) (now (x .args .labels))) (x .pre .0) queryWord (f .result)
     (f .last .1 .1 .1 .0) (x .pre .1 .1 .0) (f .kept .1 .1 .1 .0) (f .ensures)
 

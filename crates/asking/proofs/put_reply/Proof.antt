@@ -38,8 +38,7 @@ few y = let h = read y in omega (arith, h .1 .0, h .0 .1 .1 .1 .1 .0 .0)
 
 slice-aggregate-read-document : tie.Need-slice-aggregate-read-document
 slice-aggregate-read-document c =
-    let x = c .before .before .before .before in
-    let a = c .before .next-at in
+    let x = c .before .before .before .before in let a = c .before .next-at in
     sym (length-take-le (a .result) (now (x .args .input)) (omega (arith, a .ensures, next-within (now (x .args .input)) 0 (omega arith) .1)))
 
 put-refused-requires : tie.Need-put-refused-requires
@@ -53,8 +52,7 @@ array-share-prefix-parents c = omega (arith, few (c .before), c .before .before 
 
 slice-aggregate-past-document : tie.Need-slice-aggregate-past-document
 slice-aggregate-past-document c =
-    let d = c .before .before .before .before .before .before .read-document in
-    let y = c .before .before in
+    let d = c .before .before .before .before .before .before .read-document in let y = c .before .before in
     sym (length-take-le (y .n .given .0 .0) (d .last .1 .0) (omega (arith, few y, d .kept .1 .0)))
 
 array-share-prefix-labels : tie.Need-array-share-prefix-labels
@@ -68,8 +66,7 @@ slice-aggregate-past-document-2 c =
 
 past-document-requires : tie.Need-past-document-requires
 past-document-requires c κs =
-    let y = c .before .before .before .before in
-    let x = entry y in
+    let y = c .before .before .before .before in let x = entry y in
     let a = c .before .before .before .before .before .before .before .before .before .before .before .before .next-at in
     let d = c .before .before .before .before .before .before .before .before .read-document in
     let h = read y in

@@ -66,18 +66,15 @@ room c =
 
 returns : tie.Need-returns
 returns c =
-    let k = c .before .before .before .before in
-    let s = k .before .before .before in
-    let u = c .beside .ensures in
-    let q = c .before .before .answer .given in
+    let k = c .before .before .before .before in let s = k .before .before .before in
+    let u = c .beside .ensures in let q = c .before .before .answer .given in
     let h = subst (λ (v : Verdict). AnswersVerdict (s .args .a) (s .args .b) v (k .decide .result .mapping)) (q .1) (k .decide .ensures) in
     rw (u .0) (verdict-refuses (s .args .a) (s .args .b) _ _ (q .0 .0) (h .0), u .1, refl, refl)
 
 returns-2 : tie.Need-returns-2
 returns-2 c =
     let a = c .before .before .before .before .before .before .before .args in
-    let k = c .before .before .before in
-    let u = c .beside2 .ensures in
+    let k = c .before .before .before in let u = c .beside2 .ensures in
     rw (u .0) (
       label-refuses (a .a) (a .b) (length (now (a .parents))) (length (now (a .labels))) (sound k)
           (fresh-none (shapeOf (a .a)) (shapeOf (a .b)) _ (c .before .if1 .taken) (c .before .before .fresh .ensures)),
@@ -92,8 +89,7 @@ add-m c = record { fits = omega (arith, size (c .before), witness-few (sound (c 
 returns-3 : tie.Need-returns-3
 returns-3 c =
     let a = c .before .before .before .before .before .before .before .before .before .before .args in
-    let d = c .before .before .before in
-    let u = c .beside3 .ensures in
+    let d = c .before .before .before in let u = c .beside3 .ensures in
     rw (u .0) (
       room-refuses (a .a) (a .b) (length (now (a .parents))) (length (now (a .labels))) (sound (d .before .before .before)) _ (free (d .before))
           (λ w. ⊎-elim (λ q. omega (arith, w .0, q .taken, size d))
@@ -107,8 +103,7 @@ returns-3 c =
 returns-4 : tie.Need-returns-4
 returns-4 c =
     let a = c .before .before .before .before .before .before .before .before .before .before .before .before .before .args in
-    let d = c .before .before .before .before .before .before in
-    let k = d .before .before .before .before in
+    let d = c .before .before .before .before .before .before in let k = d .before .before .before .before in
     let s = k .before .before .before in
     let h = subst (λ (v : Verdict). AnswersVerdict (s .args .a) (s .args .b) v (k .decide .result .mapping)) (c .before .enum-told .given .1)
     (k .decide .ensures) in
@@ -133,12 +128,10 @@ returns-5 c =
     let a = c .before .before .before .before .before .before .before .before .before .before .before .before .before .before .before .before .before .before
     .before .before .before .args in
     let e = c .before .before .before .before .before .before .before .before .before .before .before in
-    let d = e .before .before .before in
-    let k = d .before .before .before .before in
+    let d = e .before .before .before in let k = d .before .before .before .before in
     let u = c .beside4 .ensures in
     let w = c .before .before .before .before .before .before .before .write-witness .ensures in
-    let r = room e in
-    let p = sound (d .before .before .before) in
+    let r = room e in let p = sound (d .before .before .before) in
     let f = free (d .before) in
     rw (u .0) (
       all-pass (a .a) (a .b) (length (now (a .parents))) (length (now (a .labels))) p _ f (r .0) (r .1),

@@ -33,10 +33,7 @@ returns-2 c =
     (subst (ChecksPattern (a .b)) (c .before .r2 .given .1) (c .before .before .before .check-pattern2 .ensures))
 
 within-requires-2 : tie.Need-within-requires-2
-within-requires-2 c κs =
-    let v = valid (c .before .before .before .before .before) in
-    let w = valid-2 (c .before .before) in
-    search (needs, v, w)
+within-requires-2 c κs = let v = valid (c .before .before .before .before .before) in let w = valid-2 (c .before .before) in search (needs, v, w)
 
 returns-3 : tie.Need-returns-3
 returns-3 c =

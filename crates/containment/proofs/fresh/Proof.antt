@@ -75,8 +75,7 @@ returns c = λ k g h. c .before .labels .inv .1 k (omega arith) g
 
 returns-2 : tie.Need-returns-2 Inv-loop μ-loop Inv-loop2 μ-loop2 Inv-labels μ-labels
 returns-2 c =
-    let l = c .before .before .before .before .before .before .labels in
-    let e = add-one (l .l) in
+    let l = c .before .before .before .before .before .before .labels in let e = add-one (l .l) in
     rw e
     record {
       label = record { least = omega arith; most = omega arith };

@@ -30,23 +30,20 @@ tail x = subst (ChecksPattern (x .before .before .before .before .before .before
 
 returns : tie.Need-returns
 returns c =
-    let k = c .before .before .before .before in
-    let a = k .before .args in
+    let k = c .before .before .before .before in let a = k .before .args in
     let v = subst (ChecksPattern (a .t1)) (c .before .before .r .given .1) (k .check-pattern .ensures) in
     refuse (a .t1) (a .t2) (c .before .before .r .given .0 .0) (c .beside .result) (c .beside .ensures) (⊎-elim inl (λ w. absurd (w .1)) (v .0))
 
 returns-2 : tie.Need-returns-2
 returns-2 c =
-    let k = c .before .before .before .before in
-    let a = k .before .before .before .before .args in
+    let k = c .before .before .before .before in let a = k .before .before .before .before .args in
     let v = subst (ChecksPattern (a .t2)) (c .before .before .r2 .given .1) (k .check-pattern2 .ensures) in
     refuse (a .t1) (a .t2) (c .before .before .r2 .given .0 .0) (c .beside2 .result) (c .beside2 .ensures)
     (inr (view (k .before), ⊎-elim inl (λ w. absurd (w .1)) (v .0)))
 
 returns-3 : tie.Need-returns-3
 returns-3 c =
-    let x = c .before .before .before in
-    let a = x .before .before .before .before .before .before .args in
+    let x = c .before .before .before in let a = x .before .before .before .before .before .before .args in
     refuse (a .t1) (a .t2) Start (c .beside3 .result) (c .beside3 .ensures)
     (inr (view (x .before .before .before), inr (tail x, inl (λ e. omega arith, refl))))
 

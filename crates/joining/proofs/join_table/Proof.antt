@@ -44,8 +44,7 @@ loop-holds c = (omega arith, filled-none (joinShape (shapeOf (c .args .t1)) (sha
 loop-again : tie.Need-loop-again Inv-loop μ-loop Inv-loop2 μ-loop2 Inv-loop3 μ-loop3
 unfolding joinShape
 loop-again c =
-    let m = c .before .before .before .before in
-    let v = m .before .args .t1 in
+    let m = c .before .before .before .before in let v = m .before .args .t1 in
     let u : ℕ = m .loop .u in
     let l = c .before .before .before .loop-test .taken in (
       omega arith,
@@ -64,10 +63,8 @@ add-p c =
 loop2-again : tie.Need-loop2-again Inv-loop μ-loop Inv-loop2 μ-loop2 Inv-loop3 μ-loop3
 unfolding joinShape
 loop2-again c =
-    let m = c .before .before .before .before in
-    let v = m .before .before .before .args .t1 in
-    let e = m .before .before .before .args .t2 in
-    let t : ℕ = m .loop2 .u - v .output .0 in
+    let m = c .before .before .before .before in let v = m .before .before .before .args .t1 in
+    let e = m .before .before .before .args .t2 in let t : ℕ = m .loop2 .u - v .output .0 in
     let l = m .loop2 .inv .0 in
     let h = c .before .before .before .loop2-test .taken in (
       omega arith,
@@ -89,10 +86,8 @@ unfolding joinShape
 loop3-again c =
     let m = c .before .before .before .before .before in
     let v = m .before .before .before .before .before .args .t1 in
-    let e : ℕ = m .before .before .before .before .before .args .t2 .count - 1 in
-    let o : ℕ = v .output .0 in
-    let s : ℕ = m .loop3 .u - e in
-    let q : ℕ = getD (v .parent) s 0 in
+    let e : ℕ = m .before .before .before .before .before .args .t2 .count - 1 in let o : ℕ = v .output .0 in
+    let s : ℕ = m .loop3 .u - e in let q : ℕ = getD (v .parent) s 0 in
     let l = m .loop3 .inv .0 in
     let z : c .before .before .if1 .q ≡ renumber o e q = ⊎-elim (λ w. omega (arith, renumber-high o e q (omega arith)))
     (λ w. omega (arith, renumber-low o e q (omega arith))) (c .before .before .if1 .came) in (

@@ -25,16 +25,14 @@ small c = omega (arith, c .before .before .first-steps .ensures (c .before .loop
 
 returns : tie.Need-returns Inv-loop μ-loop
 returns c =
-    let m = c .before .before .before .before in
-    let h = c .before .has-bit in
+    let m = c .before .before .before .before in let h = c .before .has-bit in
     pick-here (m .loop .s) (small (c .before .before .before))
     (m .before .first-steps .ensures (m .loop .s) .0 (c .before .before .before .loop-test .taken), h .ensures .0 (rw (c .if1 .taken) tt))
     (λ j l x. m .loop .inv .1 j l (x .1))
 
 loop-again : tie.Need-loop-again Inv-loop μ-loop
 loop-again c =
-    let m = c .before .before .before .before in
-    let h = c .before .has-bit in
+    let m = c .before .before .before .before in let h = c .before .has-bit in
     (omega arith, below-more _ _ (m .loop .inv .1) (λ e. rw (c .if1 .left) at (h .ensures .1 e)))
 
 returns-2 : tie.Need-returns-2 Inv-loop μ-loop

@@ -15,8 +15,7 @@ fit-turns-requires c κs =
 returns : tie.Need-returns
 returns c =
     let g = c .before .before .before .before .before .before .before .before in
-    let k = g .before .before .before .before in
-    let s = k .before .before .before .before .before .before in
+    let k = g .before .before .before .before in let s = k .before .before .before .before .before .before in
     let sets = k .gather .ensures in
     c .fit-turns .ensures (shapeOf (s .args .b))
     (record {

@@ -54,11 +54,9 @@ hand-up-requires c κs =
 loop-again : tie.Need-loop-again Inv-loop μ-loop
 loop-again c =
     let m = c .before .before .before .before .before .before .before .before .before .before in
-    let s = m .before in
-    let v = s .pre .0 in
+    let s = m .before in let v = s .pre .0 in
     let k : 1 < m .loop .i = c .before .before .before .before .before .before .before .before .before .loop-test .taken in
-    let i : ℕ = m .loop .i - 1 in
-    let l : i < s .args .t1 .count = omega arith in
+    let i : ℕ = m .loop .i - 1 in let l : i < s .args .t1 .count = omega arith in
     let z : suc i ≡ m .loop .i = omega arith in
     let o = tells-eq i (s .args .t1 .output .0) in (
       omega arith,
@@ -76,10 +74,8 @@ loop-again c =
 
 returns : tie.Need-returns Inv-loop μ-loop
 returns c = λ B p e.
-    let m = c .before .before .before .before in
-    let s = m .before in
-    let v = s .pre .0 in
-    let A = shapeOf (s .args .t1) in
+    let m = c .before .before .before .before in let s = m .before in
+    let v = s .pre .0 in let A = shapeOf (s .args .t1) in
     let z : m .loop .i ≡ 1 = omega arith in
     let u : Risen (rowsOf A) (FitsIn B A) 1 (entries (m .loop .fit)) (entries (m .loop .under)) = rw z at (m .loop .inv .4 B p e) in
     let o = tells-eq 0 (s .args .t1 .output .0) in

@@ -22,8 +22,7 @@ cast-p c = let m = c .before .before in omega (arith, m .before .pre .1 (m .loop
 
 returns : tie.Need-returns Inv-loop μ-loop
 returns c A l w =
-    let m = c .before .before .before .before .before .before in
-    let s = m .loop .s in
+    let m = c .before .before .before .before .before .before in let s = m .loop .s in
     let f = c .before .takes .ensures .0 (rw (c .if1 .taken) tt) in
     sought-here A _ _ _ _ (l .valid) s (m .loop .inv .2 A l) w (omega (arith, l .count))
     (λ e. (l .parent s ∙ f .0 e .0, l .axis s ∙ f .0 e .1), f .1)

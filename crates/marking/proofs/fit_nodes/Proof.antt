@@ -26,8 +26,7 @@ returns c =
     let k = c .before .before .before .before .before .before .before .before .before in
     let g = k .before .before .before .before .before in
     let s = g .before .before .before .before .before .before .before .before .before in
-    let A = shapeOf (s .args .p) in
-    let n : ℕ = length (now (s .args .parents)) in
+    let A = shapeOf (s .args .p) in let n : ℕ = length (now (s .args .parents)) in
     fitted-before A _ (s .pre .0) (s .pre .1 .0) (s .args .seed) _ _ _ (cleared-length (2 * n) (now (s .args .work)) (s .pre .1 .1))
     (cleared-rest (2 * n) (now (s .args .work)))
     (rw (k .clear .ensures) at (c .before .before .fit-turns .ensures A (record {

@@ -22,8 +22,7 @@ abbrev μ-loop : tie.MeasureT-loop
 
 loop-holds : tie.Need-loop-holds Inv-loop μ-loop
 loop-holds c =
-    let s = c .before .before .before in
-    let v = s .pre .0 in
+    let s = c .before .before .before in let v = s .pre .0 in
     (omega (arith, v .some), omega arith, refl, λ A p. up-start A _ (p .sets-of .valid) v (s .args .seed) _ (s .pre .1 .1))
 
 slice-read-below : tie.Need-slice-read-below Inv-loop μ-loop
@@ -41,19 +40,16 @@ cast-hand-up c = omega (arith, c .shared-slice-known4 .given (c .before .before 
 hand-up-requires : tie.Need-hand-up-requires Inv-loop μ-loop
 hand-up-requires c κs =
     let m = c .before .before .before .before .before .before .before in
-    let s = m .before .before .before .before in
-    let i : ℕ = m .loop .i - 1 in
+    let s = m .before .before .before .before in let i : ℕ = m .loop .i - 1 in
     let l : i < length (now (s .args .parents)) = omega arith in
     (parent-lt (document-ordered (s .pre .0)) i (omega arith) l, omega (arith, s .pre .0 .few), omega (arith, s .pre .1 .0, m .loop .inv .2))
 
 loop-again : tie.Need-loop-again Inv-loop μ-loop
 loop-again c =
     let m = c .before .before .before .before .before .before .before .before .before .before in
-    let s = m .before .before .before .before in
-    let v = s .pre .0 in
+    let s = m .before .before .before .before in let v = s .pre .0 in
     let k : 1 < m .loop .i = c .before .before .before .before .before .before .before .before .before .loop-test .taken in
-    let i : ℕ = m .loop .i - 1 in
-    let h = c .before .before .hand-up .ensures in
+    let i : ℕ = m .loop .i - 1 in let h = c .before .before .hand-up .ensures in
     let l : i < length (now (s .args .parents)) = omega arith in
     let z : suc i ≡ m .loop .i = omega arith in (
       omega arith,
@@ -78,10 +74,8 @@ same-length c = simp length-set (c .before .before .before .before .before .loop
 
 returns : tie.Need-returns Inv-loop μ-loop
 returns c =
-    let m = c .before .before .before .before .before in
-    let s = m .before .before .before .before in
-    let v = s .pre .0 in
-    let e : m .loop .i ≡ 1 = omega arith in
+    let m = c .before .before .before .before .before in let s = m .before .before .before .before in
+    let v = s .pre .0 in let e : m .loop .i ≡ 1 = omega arith in
     λ A p.
     let u : Upward A (documentOf (now (s .args .parents)) (now (s .args .labels))) (s .args .seed) 1 (now (s .args .work)) (m .loop .work)
     = rw e at (m .loop .inv .3 A p) in

@@ -36,8 +36,7 @@ loop-again c =
 
 returns : tie.Need-returns Inv-loop μ-loop
 returns c =
-    let l = c .before in
-    let e : l .loop .k ≡ length (now (l .before .args .starts)) = omega arith in
+    let l = c .before in let e : l .loop .k ≡ length (now (l .before .args .starts)) = omega arith in
     let m : MarkedTo (now (l .before .args .starts)) (now (l .before .args .work)) (length (now (l .before .args .starts))) (l .loop .work) = rw e at
     (l .loop .inv .1) in
     (marked-all _ _ _ m, marked-others _ _ _ m)

@@ -22,8 +22,7 @@ loop-holds c = (omega arith, ascends-start _ _)
 
 returns : tie.Need-returns Inv-loop μ-loop
 returns c =
-    let l = c .before .before .before in
-    let x = getD (now (l .before .args .starts)) (l .loop .k) 0 in
+    let l = c .before .before .before in let x = getD (now (l .before .args .starts)) (l .loop .k) 0 in
     λ d e. (
       λ t. absurd t,
       λ w. ⊎-elim (λ q. ascends-low _ _ (l .loop .k) (l .loop .least) (l .loop .inv .1) (q .taken) (omega arith) (w .ascending))
@@ -36,8 +35,7 @@ add-least c = let l = c .before .before .before .before in omega (arith, c .befo
 
 loop-again : tie.Need-loop-again Inv-loop μ-loop
 loop-again c =
-    let l = c .before .before .before .before in
-    let xs = now (l .before .args .starts) in
+    let l = c .before .before .before .before in let xs = now (l .before .args .starts) in
     let k = l .loop .k in
     let r : Ascends xs (l .before .args .n) (suc k) (suc (getD xs k 0)) = ascends-more _ _ k (l .loop .least) (l .loop .inv .1) (omega arith)
     (leb-false (l .before .args .n) (getD xs k 0) (c .if2 .left)) in
@@ -45,8 +43,7 @@ loop-again c =
 
 returns-2 : tie.Need-returns-2 Inv-loop μ-loop
 returns-2 c =
-    let l = c .before in
-    let z : l .loop .k ≡ length (now (l .before .args .starts)) = omega arith in
+    let l = c .before in let z : l .loop .k ≡ length (now (l .before .args .starts)) = omega arith in
     λ d e. (
       λ t. record { ascending = λ j h. l .loop .inv .1 .up j (omega arith); nodes = λ j h. omega (arith, l .loop .inv .1 .small j (omega arith)) },
       λ w. tt,

@@ -19,8 +19,7 @@ abbrev μ-loop : tie.MeasureT-loop
 loop-again : tie.Need-loop-again Inv-loop μ-loop
 unfolding nodeBytes
 loop-again c =
-    let x = c .before .before .before .before .before .before .before in
-    let l = x .loop in
+    let x = c .before .before .before .before .before .before .before in let l = x .loop in
     let a = x .before .before .before .before .before .before .before .before .args in
     let d = documentOf (now (a .parents)) (now (a .labels)) in (
       omega arith,
@@ -34,8 +33,7 @@ returns c =
     let l = c .before .loop in
     let a = c .before .before .before .before .before .before .before .before .before .args in
     let d = documentOf (now (a .parents)) (now (a .labels)) in
-    let e : 3 + 4 * l .i ≡ sizeOf d = omega arith in
-    let f : l .i ≡ nodeCount d = omega arith in
+    let e : 3 + 4 * l .i ≡ sizeOf d = omega arith in let f : l .i ≡ nodeCount d = omega arith in
     rw (e, f) at (rows-all (nodeBytes d) 3 4 _ (head d) (now (a .out)) (l .out) (l .i) refl (c .before .before .before .before .put-head .ensures) (l .inv .1))
 
 pub put-document-spec : {M : Type 1} → statement M

@@ -12,8 +12,7 @@ use Rattle.packets.proofs.put_node.Tie as tie
 
 returns : tie.Need-returns
 returns c =
-    let p = c .before .before .before .before .before .before in
-    let a = p .before .before .before .args in
+    let p = c .before .before .before .before .before .before in let a = p .before .before .before .args in
     let e : a .at + 2 + 2 ≡ a .at + 4 = omega arith in
     rw e at (put-two (now (a .out)) _ _ (high (a .parent) ∷ low (a .parent) ∷ []) (high (a .label) ∷ low (a .label) ∷ []) (a .at) 2 2 (omega arith) refl
     (p .put-half .ensures) (c .before .before .put-half2 .ensures))

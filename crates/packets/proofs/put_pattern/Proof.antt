@@ -34,8 +34,7 @@ abbrev μ-loop : tie.MeasureT-loop
 loop-again : tie.Need-loop-again Inv-loop μ-loop
 unfolding stepBytes
 loop-again c =
-    let x = c .before .before in
-    let l = x .before .before .before .before .before .before .loop in
+    let x = c .before .before in let l = x .before .before .before .before .before .before .loop in
     let p = x .before .before .before .before .before .before .before .before .before .before .before .before .args .t1 in (
       omega arith,
       l .inv .1,
@@ -44,8 +43,7 @@ loop-again c =
 
 returns : tie.Need-returns Inv-loop μ-loop
 returns c =
-    let l = c .before .loop in
-    let h = c .before .before .before .before .put-head in
+    let l = c .before .loop in let h = c .before .before .before .before .put-head in
     let a = c .before .before .before .before .before .before .before .args in
     let e : l .k ≡ a .t1 .count = omega arith in
     all (shapeOf (a .t1)) (now (a .out)) _ _ (l .out) (omega arith) (h .ensures) refl (rw e at (l .inv .2))

@@ -15,8 +15,7 @@ use Rattle.packets.proofs.put_step.Tie as tie
 returns : tie.Need-returns
 returns c =
     let a = c .before .before .before .before .before .args in
-    let s : a .at + 1 ≡ suc (a .at) = omega arith in
-    let e : a .at + 2 + 2 ≡ a .at + 4 = omega arith in
+    let s : a .at + 1 ≡ suc (a .at) = omega arith in let e : a .at + 2 + 2 ≡ a .at + 4 = omega arith in
     rw e at (put-two (now (a .out)) _ _ (a .parent ∷ a .axis ∷ []) (high (a .label) ∷ low (a .label) ∷ []) (a .at) 2 2 (omega arith) refl
     (rw s (sets-eq (a .parent ∷ a .axis ∷ []) (now (a .out)) (a .at) (omega arith))) (c .before .before .put-half .ensures))
 

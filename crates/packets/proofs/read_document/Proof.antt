@@ -62,8 +62,7 @@ valid y = subst ValidDocument (fronts (counted y))
 returns : tie.Need-returns
 returns c =
     let d = c .before .before .before .before .before in
-    let a = d .before .before .before .before .before .before .args in
-    let bs = now (a .s) in
+    let a = d .before .before .before .before .before .before .args in let bs = now (a .s) in
     let h = subst (λ r. ReadsNodes bs (replicate 2048 0) (replicate 2048 0) r (d .read-nodes .last .1 .0) (d .read-nodes .last .1 .1 .0))
     (c .before .r .given .1) (d .read-nodes .ensures) in
     let l = length-replicate {A = ℕ} 2048 0 in (
@@ -75,8 +74,7 @@ returns c =
 returns-2 : tie.Need-returns-2
 returns-2 c =
     let k = c .before .before .before .check-document in
-    let x = c .before .before .before .before .before .before .before in
-    let r = c .before .r2 .given .0 .0 in
+    let x = c .before .before .before .before .before .before .before in let r = c .before .r2 .given .0 .0 in
     let v = subst (ChecksDocument (packetDocument (bytes x))) (c .before .r2 .given .1) (subst (λ d. ChecksDocument d (k .result)) (fronts x) (k .ensures)) in (
       refuses-rest (headChecks (bytes x) 0 2048) (documentRight (packetDocument (bytes x)) ++ listsCheck (bytes x) (length (lent x .0)) (length (lent x .1))) r
           (head-passes (header x)) (refuses-front (documentRight (packetDocument (bytes x))) (listsCheck (bytes x) (length (lent x .0)) (length (lent x .1)))
@@ -108,12 +106,9 @@ copy-requires-2 c κs =
 
 returns-4 : tie.Need-returns-4
 returns-4 c =
-    let k = c .before .before .before .before .before .before .before in
-    let e = k .before .before .before in
-    let y = e .before .before in
-    let x = counted y in
-    let n = x .n .given .0 .0 in
-    let m = nodes x .1 .0 in
+    let k = c .before .before .before .before .before .before .before in let e = k .before .before .before in
+    let y = e .before .before in let x = counted y in
+    let n = x .n .given .0 .0 in let m = nodes x .1 .0 in
     let room = ltb-false (length (lent x .1)) n (e .if2 .left) in
     let f : k .copy .last .1 .1 .0 ≡ take n (own x .0) ++ drop n (lent x .0) = k .copy .ensures in
     let g : c .before .before .copy2 .last .1 .1 .0 ≡ take n (own x .1) ++ drop n (lent x .1) = c .before .before .copy2 .ensures in (

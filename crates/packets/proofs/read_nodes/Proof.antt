@@ -41,8 +41,7 @@ returns c =
 
 returns-2 : tie.Need-returns-2
 returns-2 c =
-    let x = c .before .before in
-    let a = entry x .args in
+    let x = c .before .before in let a = entry x .args in
     let e = headed x .1 in (
       refuses-rest (headChecks (now (a .s)) 0 2048) (listsCheck (now (a .s)) (length (now (a .parents))) (second x)) Room (headed x .0) (inl (
         (λ w. ⊎-elim (λ t. omega (arith, e, w .0)) (λ t. omega (arith, e, w .1, ltb-true (second x) (x .n .given .0 .0) (t .1 .taken))) (c .if1 .came)),
@@ -53,29 +52,22 @@ returns-2 c =
 
 get-halves-requires : tie.Need-get-halves-requires
 get-halves-requires c κs =
-    let h = headed (c .before .before .before .before) in
-    let z = h .0 .1 .1 .0 .1 in
+    let h = headed (c .before .before .before .before) in let z = h .0 .1 .1 .0 .1 in
     (omega arith, λ i l. omega (arith, z .field, z .present, h .1))
 
 get-halves-requires-2 : tie.Need-get-halves-requires-2
 get-halves-requires-2 c κs =
-    let e = c .before .before .before .before .before in
-    let x = e .before .before .before in
-    let h = headed x in
-    let z = h .0 .1 .1 .0 .1 in
+    let e = c .before .before .before .before .before in let x = e .before .before .before in
+    let h = headed x in let z = h .0 .1 .1 .0 .1 in
     (omega (arith, ltb-false (second x) (x .n .given .0 .0) (e .if2 .left)), λ i l. omega (arith, z .field, z .present, h .1))
 
 returns-3 : tie.Need-returns-3
 unfolding packetDocument
 returns-3 c =
-    let g = c .before .before .before .before .before .before in
-    let e = g .before .before in
-    let x = e .before .before .before in
-    let bs = now (entry x .args .s) in
-    let n = x .n .given .0 .0 in
-    let p = now (entry x .args .parents) in
-    let l = now (entry x .args .labels) in
-    let m = headed x .1 in
+    let g = c .before .before .before .before .before .before in let e = g .before .before in
+    let x = e .before .before .before in let bs = now (entry x .args .s) in
+    let n = x .n .given .0 .0 in let p = now (entry x .args .parents) in
+    let l = now (entry x .args .labels) in let m = headed x .1 in
     let f : g .get-halves .last .1 .1 .1 .1 .0 ≡ column (λ i. half bs (3 + 4 * i)) n ++ drop n p = g .get-halves .ensures in
     let h : c .before .before .get-halves2 .last .1 .1 .1 .1 .0 ≡ column (λ i. half bs (5 + 4 * i)) n ++ drop n l = c .before .before .get-halves2 .ensures in
     let room = ltb-false (second x) n (e .if2 .left) in (

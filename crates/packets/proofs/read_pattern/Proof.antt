@@ -29,25 +29,20 @@ returns c =
 
 pattern-in-requires : tie.Need-pattern-in-requires
 pattern-in-requires c κs =
-    let h = headed (c .before) in
-    let z = h .0 .1 .1 .0 .1 in
+    let h = headed (c .before) in let z = h .0 .1 .1 .0 .1 in
     (omega (arith, z .few, z .field, h .1), omega (arith, z .field, z .present, h .1), h .1)
 
 returns-2 : tie.Need-returns-2
 returns-2 c =
-    let k = c .before .before in
-    let q = k .before .pattern-in in
-    let x = k .before .before .before in
-    let bs = now (entry x .args .s) in
+    let k = c .before .before in let q = k .before .pattern-in in
+    let x = k .before .before .before in let bs = now (entry x .args .s) in
     let v = subst (λ p. Passes (patternRight p)) (q .ensures) (subst (ChecksPattern (q .result)) (c .enum-told .given .1) (k .check-pattern .ensures) .0) in
     (passes-both (headChecks bs 1 64) (patternRight (packetPattern bs)) (headed x .0) v, q .ensures)
 
 returns-3 : tie.Need-returns-3
 returns-3 c =
-    let y = c .before .before in
-    let k = y .before .before in
-    let q = k .before .pattern-in in
-    let x = k .before .before .before in
+    let y = c .before .before in let k = y .before .before in
+    let q = k .before .pattern-in in let x = k .before .before .before in
     let bs = now (entry x .args .s) in
     let v = subst (λ p. Refuses (patternRight p) (y .r2 .given .0 .0)) (q .ensures)
     (subst (ChecksPattern (q .result)) (y .r2 .given .1) (k .check-pattern .ensures) .0) in

@@ -19,8 +19,7 @@ returns-2 c = (inr (omega arith, inl ((λ h. omega arith), refl)), tt)
 
 returns-3 : tie.Need-returns-3
 returns-3 c =
-    let a = c .before .before .before .before .before .before .args in
-    let f = c .before .get-half .result in
+    let a = c .before .before .before .before .before .before .args in let f = c .before .get-half .result in
     let unsized : ((n : ℕ) × Sized (now (a .s)) (a .extra) (a .most) n) → ⊥ =
     λ z. ⊎-elim (λ t. omega (arith, z .1 .some, z .1 .field)) (⊎-elim (λ t. omega (arith, z .1 .field, z .1 .few, ltb-true (a .most) (f / 4) (t .1 .taken)))
     (⊎-elim (λ t. omega (arith, z .1 .field, eqb-false (f % 4) (a .extra) (not-true _ (t .2 .taken))))

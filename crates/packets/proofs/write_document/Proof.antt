@@ -19,8 +19,7 @@ valid x = subst (ChecksDocument (document x)) (x .enum-told .given .1) (x .befor
 
 returns : tie.Need-returns
 returns c =
-    let k = c .before .before .before in
-    let a = k .before .before .before .before .args in
+    let k = c .before .before .before in let a = k .before .before .before .before .args in
     let v = subst (ChecksDocument (documentOf (now (a .parents)) (now (a .labels)))) (c .before .r .given .1) (k .check-document .ensures) in
     (⊎-elim inl (λ w. absurd (w .1)) (v .0), refl)
 

@@ -46,13 +46,10 @@ add-if2 c = record { fits = omega (arith, few (c .before .before .before .before
 loop-again : tie.Need-loop-again Inv-loop μ-loop
 loop-again c =
     let m = c .before .before .before .before .before .before .before .before in
-    let p = m .before .args .t1 in
-    let t : ℕ = m .loop .t in
-    let i = m .loop .inv in
-    let own = c .before .before .before .before .before .one-bit .ensures in
+    let p = m .before .args .t1 in let t : ℕ = m .loop .t in
+    let i = m .loop .inv in let own = c .before .before .before .before .before .one-bit .ensures in
     let up = c .before .before .before .before .one-bit2 .ensures in
-    let f : ℕ → ℕ = λ s. getD (p .parent) s 0 in
-    let x : ℕ → ℕ → Type 0 = λ a s. getD (p .axis) s 0 ≡ a in
+    let f : ℕ → ℕ = λ s. getD (p .parent) s 0 in let x : ℕ → ℕ → Type 0 = λ a s. getD (p .axis) s 0 ≡ a in
     let q : ℕ → Type 0 = λ s. f s + 1 ≡ s in (
       omega arith,
       omega arith,
@@ -77,8 +74,7 @@ loop-again c =
 
 returns : tie.Need-returns Inv-loop μ-loop
 returns c =
-    let m = c .before in
-    let p = shapeOf (m .before .args .t1) in
+    let m = c .before in let p = shapeOf (m .before .args .t1) in
     let i = m .loop .inv in
     let e : m .loop .t ≡ m .before .args .t1 .count = omega arith in (
       record {

@@ -22,10 +22,8 @@ loop-holds c = (omega arith, omega arith, ap length (c .pre .1 .0), ap length (c
 
 loop-again : tie.Need-loop-again Inv-loop μ-loop
 loop-again c =
-    let m = c .before .before .before .before in
-    let s = m .before .args in
-    let i = m .loop .inv in
-    let forks = m .loop .forks in
+    let m = c .before .before .before .before in let s = m .before .args in
+    let i = m .loop .inv in let forks = m .loop .forks in
     let later = m .loop .later in
     ⊎-elim
     (λ w. (

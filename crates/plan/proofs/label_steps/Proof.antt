@@ -34,8 +34,7 @@ mul-high-2 c = record { fits = omega (arith, small (c .before .before .before .b
 
 loop-again : tie.Need-loop-again Inv-loop μ-loop
 loop-again c =
-    let m = c .before .before .before .before .before in
-    let i = m .loop .inv in
+    let m = c .before .before .before .before .before in let i = m .loop .inv in
     let h = small (c .before .before .before .before) in (
       omega arith,
       simp length-set (i .1),

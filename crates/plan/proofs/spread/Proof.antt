@@ -24,8 +24,7 @@ loop-holds c = (omega arith, rw (c .pre .1) (spread-none _))
 
 double-requires : tie.Need-double-requires Inv-loop μ-loop
 double-requires c κs =
-    let m = c .before .before .before in
-    let p = pow-mono {i = m .loop .t % 8} {j = 7} (omega arith) in
+    let m = c .before .before .before in let p = pow-mono {i = m .loop .t % 8} {j = 7} (omega arith) in
     (m .loop .inv .1 .size, rw (shl-one (m .loop .t % 8) (omega arith)) (omega arith))
 
 loop-again : tie.Need-loop-again Inv-loop μ-loop

@@ -38,8 +38,7 @@ view-few x = let p = start x .pre .0 in omega (arith, view-here (p .0) (p .1) (x
 first-labels : (x : tie.Else1 Inv-loop μ-loop) → let s = start (x .before .before .before) in
     getD (s .args .t2 .label) (s .args .t2 .output .0) 0 ≡ getD (s .args .t1 .label) (s .args .c) 0
 first-labels x =
-    let y = x .before .before .before in
-    let a = start y .args in
+    let y = x .before .before .before in let a = start y .args in
     ⊎-elim (λ e. ap (λ k. getD (a .t2 .label) k 0) (sym (e .1)) ∙ sym (x .if1 .left) ∙ ap (λ k. getD (a .t1 .label) k 0) (e .0)) (λ e. e) (y .loop .inv .1)
 
 -- past the test of the view's step, both have parents, which stand as deep as each other
@@ -58,8 +57,7 @@ loop-holds c = (level-start (c .pre .0 .0) (c .pre .0 .1) (c .pre .1 .0) _ (c .p
 
 returns : tie.Need-returns Inv-loop μ-loop
 returns c =
-    let x = c .before .before .before in
-    let a = start x .args in
+    let x = c .before .before .before in let a = start x .args in
     let p = start x .pre .0 in (
       λ z. absurd z,
       λ E w. ⊎-elim (λ n. n .taken (labels-agree _ _ E (p .0) (p .1) w (x .loop .inv .0)))
@@ -73,8 +71,7 @@ returns-2 c = (λ z. first-labels (c .before .before .before .before), λ E w. t
 
 cast-s : tie.Need-cast-s Inv-loop μ-loop
 cast-s c =
-    let x = c .before in
-    let p = start (looked x) .pre .0 in
+    let x = c .before in let p = start (looked x) .pre .0 in
     record { fits = omega (arith, query-here (p .0) (p .1) (up x .1), p .0 .few) }
 
 element-copy-out-t : tie.Need-element-copy-out-t Inv-loop μ-loop

@@ -47,8 +47,7 @@ returns-2 c = (λ b. absurd b, λ E k s. failed (c .before .agree .result) (c .i
 
 returns-3 : tie.Need-returns-3
 returns-3 c =
-    let x = c .before .before .before in
-    let w = c .before .before .agree in
+    let x = c .before .before .before in let w = c .before .before .agree in
     let r = c .cut .ensures in (
       λ t. record {
         long = long (x .before);

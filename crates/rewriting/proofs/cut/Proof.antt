@@ -36,8 +36,7 @@ late x =
 loop-holds : tie.Need-loop-holds Inv-loop μ-loop
 unfolding tableOf cutShape
 loop-holds c =
-    let a = c .before .before in
-    let m = sized (c .before) in
+    let a = c .before .before in let m = sized (c .before) in
     let v = cut-rules (a .args .t1) (a .pre .0) (a .args .c) (a .pre .1) in
     let z : a .args .c ≡ a .args .c + 0 = omega arith in (
       omega arith,
@@ -50,8 +49,7 @@ loop-again : tie.Need-loop-again Inv-loop μ-loop
 unfolding cutShape
 loop-again c =
     let l = c .before .before .before .before .loop in
-    let x = c .before .before .before .before .before .before in
-    let q = x .before .args .t1 in
+    let x = c .before .before .before .before .before .before in let q = x .before .args .t1 in
     let k = x .before .args .c + l .t in (
       omega arith,
       filled-next (getD (q .parent) k 0 - x .before .args .c) (getD (q .axis) k 0) (getD (q .label) k 0) (l .inv .1) (omega (arith, sized x))

@@ -19,14 +19,12 @@ loop-holds c = (omega arith, climbed-none (shapeOf (c .args .t1)))
 
 loop-again : tie.Need-loop-again Inv-loop μ-loop
 loop-again c =
-    let v = c .before .before .before .pre .0 in
-    let r = c .before .before .loop .inv .1 in
+    let v = c .before .before .before .pre .0 in let r = c .before .before .loop .inv .1 in
     (omega arith, climbed-up v r (climbed-late v r (omega (arith, main-length v))) .1)
 
 returns : tie.Need-returns Inv-loop μ-loop
 returns c =
-    let v = c .before .before .pre .0 in
-    let r = c .before .loop .inv .1 in
+    let v = c .before .before .pre .0 in let r = c .before .loop .inv .1 in
     main-at v (c .before .loop .s) _ (r .from) (omega (arith, r .deep, main-length v))
 
 pub main-step-spec : {M : Type 1} → statement M

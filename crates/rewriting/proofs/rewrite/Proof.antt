@@ -55,30 +55,26 @@ there x = x .before .before .candidate .ensures .0 (passed (x .before .before .c
 -- and it can be joined to the view
 joinable : (x : tie.Else3) → Joinable (entry (x .before .before .before) .args .v) (x .before .before .candidate .result .pattern)
 joinable x =
-    let y = x .before .before .before in
-    let p = passes y in
+    let y = x .before .before .before in let p = passes y in
     candidate-joinable (entry y .args .q) (entry y .args .v) (p .0) (p .1 .0) (there x) (p .1 .1 .0 .0) (p .1 .1 .0 .1)
 
 returns : tie.Need-returns
 returns c =
-    let k = c .before .before .before .before in
-    let a = k .before .args in
+    let k = c .before .before .before .before in let a = k .before .args in
     let v = subst (ChecksPattern (a .q)) (c .before .before .r .given .1) (k .check-pattern .ensures) in
     said (a .q) (a .v) (rewriting.Refused (c .before .before .r .given .0 .0)) (c .beside .result) (c .beside .ensures)
     (⊎-elim inl (λ w. absurd (w .1)) (v .0), refl)
 
 returns-2 : tie.Need-returns-2
 returns-2 c =
-    let k = c .before .before .before .before in
-    let a = k .before .before .before .before .args in
+    let k = c .before .before .before .before in let a = k .before .before .before .before .args in
     let v = subst (ChecksPattern (a .v)) (c .before .before .r2 .given .1) (k .check-pattern2 .ensures) in
     said (a .q) (a .v) (rewriting.Refused (c .before .before .r2 .given .0 .0)) (c .beside2 .result) (c .beside2 .ensures)
     (inr (query (k .before), ⊎-elim inl (λ w. absurd (w .1)) (v .0)), refl)
 
 returns-3 : tie.Need-returns-3
 returns-3 c =
-    let x = c .before .before .before in
-    let a = x .before .before .before .before .before .before .args in
+    let x = c .before .before .before in let a = x .before .before .before .before .before .before .args in
     said (a .q) (a .v) (rewriting.Refused TooLarge) (c .beside3 .result) (c .beside3 .ensures) (
       inr (
         query (x .before .before .before),
@@ -95,17 +91,14 @@ returns-3 c =
 
 returns-4 : tie.Need-returns-4
 returns-4 c =
-    let f = c .before .before .before .candidate in
-    let x = c .before .before .before .before in
+    let f = c .before .before .before .candidate in let x = c .before .before .before .before in
     said (entry x .args .q) (entry x .args .v) rewriting.Nothing (c .beside4 .result) (c .beside4 .ensures)
     (passes x, λ E k s. failed (f .result .there) (c .before .if3 .taken) (f .ensures .1 E k s), refl)
 
 returns-5 : tie.Need-returns-5
 returns-5 c =
-    let w = c .before .before .serves in
-    let y = c .before .before .before .before in
-    let x = y .before .before .before in
-    let a = entry x .args in
+    let w = c .before .before .serves in let y = c .before .before .before .before in
+    let x = y .before .before .before in let a = entry x .args in
     said (a .q) (a .v) rewriting.Nothing (c .beside5 .result) (c .beside5 .ensures) (
       passes x,
       λ E k s. failed (w .result) (c .before .if4 .taken) (w .ensures .1
@@ -115,8 +108,7 @@ returns-5 c =
 
 returns-6 : tie.Need-returns-6
 returns-6 c =
-    let w = c .before .serves in
-    let y = c .before .before .before in
+    let w = c .before .serves in let y = c .before .before .before in
     (passes (y .before .before .before), there y, record { joinable = joinable y; equal = w .ensures .0 (passed (w .result) (c .if4 .left)) })
 
 pub rewrite-spec : {M : Type 1} → statement M

@@ -23,8 +23,7 @@ abbrev μ-loop : tie.MeasureT-loop
 
 returns : tie.Need-returns Inv-loop μ-loop
 returns c =
-    let a = c .before .before .before .args in
-    let n = length (now (a .parents)) in
+    let a = c .before .before .before .args in let n = length (now (a .parents)) in
     refused BadDocument (λ v. ⊎-elim (λ t. omega (arith, v .some)) (⊎-elim (λ t. omega (arith, v .few, ltb-true 2048 n (t .1 .taken)))
     (λ t. omega (arith, v .equal, eqb-false (length (now (a .labels))) n (not-true _ (t .2 .taken))))) (c .if1 .came))
 
@@ -49,7 +48,6 @@ check-document-spec = tie.close (tie.spec Inv-loop μ-loop returns loop-holds
     (λ c. (
       omega arith,
       c .before .before .before .loop .inv .1,
-      below-more _ _ (c .before .before .before .loop .inv .2)
-          (c .before .node-right .ensures .0 (passed (c .before .node-right .result) (c .if4 .left))),
+      below-more _ _ (c .before .before .before .loop .inv .2) (c .before .node-right .ensures .0 (passed (c .before .node-right .result) (c .if4 .left))),
     ))
     returns-3)

@@ -56,14 +56,12 @@ check-pattern-spec = tie.close (tie.spec (λ c. search needs) returns
     (λ c. simp length-take (omega (
       arith,
       few (c .before .before .before .before .before .before),
-      long (c .before .before .before .before .before .before)
-          .2,
+      long (c .before .before .before .before .before .before) .2,
     )))
     steps-right-requires
     (λ c. (
       (
-        steps (c .before .before .before .before .before .before .before .before) .0
-            (c .before .steps-right .ensures .0 (subst T (sym (c .if4 .taken)) tt)),
+        steps (c .before .before .before .before .before .before .before .before) .0 (c .before .steps-right .ensures .0 (subst T (sym (c .if4 .taken)) tt)),
         tt,
       ),
       tt,

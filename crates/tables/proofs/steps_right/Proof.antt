@@ -27,7 +27,6 @@ steps-right-spec = tie.close (tie.spec Inv-loop μ-loop (λ c. (omega arith, λ 
     returns (λ c. search needs) (λ c. search needs)
     (λ c. (
       omega arith,
-      below-more _ _ (c .before .before .before .loop .inv .1)
-          (c .before .step-right .ensures .0 (passed (c .before .step-right .result) (c .if1 .left))),
+      below-more _ _ (c .before .before .before .loop .inv .1) (c .before .step-right .ensures .0 (passed (c .before .step-right .result) (c .if1 .left))),
     ))
     (λ c. (λ t s l. c .before .loop .inv .1 s (omega arith), λ v. tt)))

@@ -17,8 +17,7 @@ place-turns-requires c κs =
 returns : tie.Need-returns
 returns c =
     let k = c .before .before .before .before .before .before .before .before .before in
-    let g = k .before .before .before in
-    let s = g .before .before .before .before .before .before in
+    let g = k .before .before .before in let s = g .before .before .before .before .before .before in
     let A = shapeOf (s .args .p) in
     λ labels v r. c .before .before .before .before .place-turns .ensures A labels v
     (record {

@@ -38,8 +38,7 @@ loop-holds c =
 
 place-turn-requires : tie.Need-place-turn-requires Inv-loop μ-loop
 place-turn-requires c κs =
-    let m = c .before .before .before in
-    let s = m .before .before .before .before in
+    let m = c .before .before .before in let s = m .before .before .before .before in
     ((omega arith, omega (arith, s .pre .0 .1), omega (arith, s .pre .0 .2, m .loop .inv .2), m .loop .inv .1), λ h. s .pre .1 (m .loop .i) h (omega arith))
 
 note-requires : tie.Need-note-requires Inv-loop μ-loop
@@ -55,8 +54,7 @@ note-requires c κs =
 loop-again : tie.Need-loop-again Inv-loop μ-loop
 loop-again c =
     let m = c .before .before .before .before .before .before .before .before .before .before in
-    let s = m .before .before .before .before in
-    let n = c .before .before .note .ensures in
+    let s = m .before .before .before .before in let n = c .before .before .note .ensures in
     let z = c .before .before .before .before .before .before .place-turn .ensures .0 in
     let w = noted-few _ _ _ _ _ _ _ n in
     let g = c .before .before .before .before .before .before .before .before .before .loop-test .taken in
@@ -74,8 +72,7 @@ loop-again c =
 
 returns : tie.Need-returns Inv-loop μ-loop
 returns c =
-    let m = c .before in
-    let s = m .before .before .before .before in
+    let m = c .before in let s = m .before .before .before .before in
     let e : m .loop .i ≡ length (now (s .args .parents)) = omega arith in
     λ A labels v k o r.
     let u = rw e at (m .loop .inv .5 A labels v k o r) in

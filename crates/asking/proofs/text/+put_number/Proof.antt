@@ -44,8 +44,7 @@ put-number-returns-2 : (t : ℕ) → put-number-lts.Need-returns-2 (
   put-number.Post,
 ) (put-number-at t) put-number.Post
 put-number-returns-2 t c =
-    let y = c .before .before .before .before .before .before in
-    let x = y .before .before .before .before in
+    let y = c .before .before .before .before .before .before in let x = y .before .before .before .before in
     rw (decimal-large (x .args .n) (omega arith)) (wrote-then (omega (arith, x .pre .1)) (y .put-number .ensures) (c .before .before .put-byte2 .ensures))
 
 pub +put-number-spec : {M : Type 1} → statement M

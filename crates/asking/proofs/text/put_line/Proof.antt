@@ -22,8 +22,7 @@ colon x = x .before .before .before .before
 -- past the count, the colon, the list and the line's end have room
 rest : (x : tie.After-put-named) → x .put-named .result + (2 + length (spaced (now (start x .args .list)))) ≤ length (x .put-named .last .0)
 rest x =
-    let s = start x in
-    let w = now (s .args .word) in
+    let s = start x in let w = now (s .args .word) in
     let xs = now (s .args .list) in
     omega (arith, s .pre, line-length w xs, length-append w (item (length xs)), x .put-named .ensures .end, x .put-named .kept .0)
 
@@ -35,17 +34,14 @@ put-list-requires c κs = let x = c .before .before .before in omega (arith, res
 
 put-byte-requires-2 : tie.Need-put-byte-requires-2
 put-byte-requires-2 c κs =
-    let y = c .before .before .before in
-    let x = colon y in
+    let y = c .before .before .before in let x = colon y in
     omega (arith, rest (first x), x .put-byte .ensures .end, x .put-byte .kept .0, y .put-list .ensures .end, y .put-list .kept .0)
 
 returns : tie.Need-returns
 unfolding line
 returns c =
-    let y = c .before .before .before .before .before .before in
-    let x = colon y in
-    let s = start (first x) in
-    let l : s .args .at ≤ length (now (s .args .out)) = omega (arith, s .pre) in
+    let y = c .before .before .before .before .before .before in let x = colon y in
+    let s = start (first x) in let l : s .args .at ≤ length (now (s .args .out)) = omega (arith, s .pre) in
     wrote-then l (wrote-then l (wrote-then l (first x .put-named .ensures) (x .put-byte .ensures)) (y .put-list .ensures))
     (c .before .before .put-byte2 .ensures)
 

@@ -22,8 +22,7 @@ cast-put-item c = omega (arith, c .shared-slice-known2 .given (c .before .before
 
 put-item-requires : tie.Need-put-item-requires Inv-loop μ-loop
 put-item-requires c κs =
-    let l = c .before .before .before .loop in
-    let x = c .before .before .before .before .before .before in
+    let l = c .before .before .before .loop in let x = c .before .before .before .before .before .before in
     omega (arith, x .pre, l .inv .same, l .inv .wrote .end, spaced-room (now (x .args .list)) (l .i) (omega arith))
 
 loop-again : tie.Need-loop-again Inv-loop μ-loop

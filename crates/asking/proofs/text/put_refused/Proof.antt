@@ -22,8 +22,7 @@ gap x = x .before .before .before .before
 -- past the number, a space, the word and the line's end have room
 rest : (x : tie.After-put-named) → x .put-named .result + (2 + length (now (start x .args .word))) ≤ length (x .put-named .last .0)
 rest x =
-    let s = start x in
-    let k = s .args .number in
+    let s = start x in let k = s .args .number in
     let w = now (s .args .word) in
     omega (arith, s .pre, refused-length k w, length-append refusedWord (item k), x .put-named .ensures .end, x .put-named .kept .0)
 
@@ -35,17 +34,14 @@ put-word-requires c κs = let x = c .before .before .before in omega (arith, res
 
 put-byte-requires-2 : tie.Need-put-byte-requires-2
 put-byte-requires-2 c κs =
-    let y = c .before .before .before in
-    let x = gap y in
+    let y = c .before .before .before in let x = gap y in
     omega (arith, rest (first x), x .put-byte .ensures .end, x .put-byte .kept .0, y .put-word .ensures .end, y .put-word .kept .0)
 
 returns : tie.Need-returns
 unfolding refusedLine
 returns c =
-    let y = c .before .before .before .before .before .before in
-    let x = gap y in
-    let s = start (first x) in
-    let l : s .args .at ≤ length (now (s .args .out)) = omega (arith, s .pre) in
+    let y = c .before .before .before .before .before .before in let x = gap y in
+    let s = start (first x) in let l : s .args .at ≤ length (now (s .args .out)) = omega (arith, s .pre) in
     wrote-then l (wrote-then l (wrote-then l (first x .put-named .ensures) (x .put-byte .ensures)) (y .put-word .ensures))
     (c .before .before .put-byte2 .ensures)
 

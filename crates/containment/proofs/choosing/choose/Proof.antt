@@ -28,8 +28,7 @@ abbrev μ-loop : tie.MeasureT-loop
 
 loop-holds : tie.Need-loop-holds Inv-loop μ-loop
 loop-holds c =
-    let s = c .before .before in
-    let v = s .pre .0 in
+    let s = c .before .before in let v = s .pre .0 in
     let g = s .pre .1 .1 in
     (omega arith, omega (arith, v .1 .some), (λ u. s .args .first, mapping-one (s .args .first), chose-start _ _ (v .1) (v .0) (s .args .first) (g .1) (g .0)))
 
@@ -67,8 +66,7 @@ picks : (c : tie.After-next-image Inv-loop μ-loop) → let m = c .before .befor
     Picks (ImageAt (shapeOf (m .before .before .before .args .a)) (now (m .before .before .before .args .fit)) (m .loop .t) (b .axis (m .loop .t))
     (m .loop .inv .2 .0 (b .tree .parent (m .loop .t)))) (c .next-image .result)
 picks c =
-    let m = c .before .before .before .before .before .before in
-    let s = m .before .before .before in
+    let m = c .before .before .before .before .before .before in let s = m .before .before .before in
     let i = m .loop .inv .2 in
     (rw (image (c .before .before .before .before .before)) at (c .next-image .ensures)) (shapeOf (s .args .a))
     (record { valid = s .pre .0 .0; count = refl; parent = λ j. refl; axis = λ j. refl })
@@ -76,8 +74,7 @@ picks c =
 
 found : (c : tie.After-next-image Inv-loop μ-loop) → c .next-image .result < 64
 found c =
-    let m = c .before .before .before .before .before .before in
-    let s = m .before .before .before in
+    let m = c .before .before .before .before .before .before in let s = m .before .before .before in
     let i = m .loop .inv .2 in
     image-found _ _ (s .pre .0 .1) (s .pre .0 .0) (now (s .args .fit)) (s .pre .1 .0) (m .loop .t) (i .0) (m .loop .inv .0) (omega arith) (i .2)
     (c .next-image .result) (picks c)
@@ -87,8 +84,7 @@ array-set-from-mapping-2 c = omega (arith, c .before .before .before .before .be
 
 loop-again : tie.Need-loop-again Inv-loop μ-loop
 loop-again c =
-    let m = c .before .before .before .before .before .before in
-    let s = m .before .before .before in
+    let m = c .before .before .before .before .before .before in let s = m .before .before .before in
     let i = m .loop .inv .2 in (
       omega arith,
       omega arith,
@@ -102,10 +98,8 @@ loop-again c =
 
 returns : tie.Need-returns Inv-loop μ-loop
 returns c =
-    let m = c .before in
-    let s = m .before .before .before in
-    let e : m .loop .t ≡ s .args .t2 .count = omega arith in
-    let i = m .loop .inv .2 in
+    let m = c .before in let s = m .before .before .before in
+    let e : m .loop .t ≡ s .args .t2 .count = omega arith in let i = m .loop .inv .2 in
     record { by = i .0; least = chose-end _ _ (s .pre .0 .1) (s .pre .0 .0) (i .0) (rw e at (i .2)); array = rw e at (i .1) }
 
 pub choose-spec : {M : Type 1} → statement M

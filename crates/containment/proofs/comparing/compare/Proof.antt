@@ -19,16 +19,14 @@ picks c =
 
 returns : tie.Need-returns
 returns c =
-    let g = c .before .before in
-    let s = g .before .before .before .before .before .before in
+    let g = c .before .before in let s = g .before .before .before .before .before .before in
     let u = c .beside .ensures in
     told-apart (s .args .t1) (s .args .t2) (c .beside .result) (s .pre .0) (s .pre .1) (u .0) (u .1)
     (not-contained _ _ (s .pre .0) (s .pre .1) _ (c .before .if1 .taken) (picks g))
 
 choose-requires : tie.Need-choose-requires
 choose-requires c κs =
-    let g = c .before .before in
-    let s = g .before .before .before .before .before .before in
+    let g = c .before .before in let s = g .before .before .before .before .before .before in
     (s .pre, (g .before .before .before .before .fit-steps .ensures, (picks g, pick-below (picks g) (c .before .if1 .left))))
 
 returns-2 : tie.Need-returns-2

@@ -14,8 +14,7 @@ valid x = subst (ChecksPattern (x .before .before .before .args .a)) (x .enum-to
 
 returns : tie.Need-returns
 returns c =
-    let k = c .before .before .before .before in
-    let a = k .before .args in
+    let k = c .before .before .before .before in let a = k .before .args in
     let u = c .beside .ensures in
     rw (u .0) (
       first-refused (a .a) (a .b) (c .before .before .r .given .0 .0)
@@ -25,8 +24,7 @@ returns c =
 
 returns-2 : tie.Need-returns-2
 returns-2 c =
-    let k = c .before .before .before .before in
-    let a = k .before .before .before .before .args in
+    let k = c .before .before .before .before in let a = k .before .before .before .before .args in
     let u = c .beside2 .ensures in
     rw (u .0) (
       second-refused (a .a) (a .b) (c .before .before .r2 .given .0 .0) (valid (k .before))
@@ -36,8 +34,7 @@ returns-2 c =
 
 compare-requires : tie.Need-compare-requires
 compare-requires c κs =
-    let k = c .before .before in
-    let v = valid (k .before) in
+    let k = c .before .before in let v = valid (k .before) in
     let w = subst (ChecksPattern (k .before .before .before .before .args .b)) (c .enum-told2 .given .1) (k .check-pattern2 .ensures) .0 .0 in
     search (needs, v, w)
 

@@ -8,8 +8,7 @@ use Rattle.containment.proofs.comparing.within.Tie as tie
 
 returns : tie.Need-returns
 returns c =
-    let s = c .before .before .before .before .before .before in
-    let A = shapeOf (s .args .t1) in
+    let s = c .before .before .before .before .before .before in let A = shapeOf (s .args .t1) in
     let B = shapeOf (s .args .t2) in
     let p = first-picked A B (s .pre .0) (s .pre .1) (c .before .before .before .before .fit-steps .last .1 .1 .0) _
     (c .before .before .before .before .fit-steps .ensures) (c .first-image .ensures) in

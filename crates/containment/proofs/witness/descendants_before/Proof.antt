@@ -25,8 +25,7 @@ loop-holds c = (omega arith, refl)
 
 add-d : tie.Need-add-d Inv-loop μ-loop
 add-d c =
-    let m = c .before .before in
-    let v = m .before .pre .0 in
+    let m = c .before .before in let v = m .before .pre .0 in
     record {
       fits = omega (
         arith,

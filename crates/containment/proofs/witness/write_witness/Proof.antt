@@ -47,10 +47,8 @@ hook-of-requires c κs = let x = c .before .before in λ l. parent-few (shape x)
 
 write-step-requires : tie.Need-write-step-requires Inv-loop μ-loop
 write-step-requires c κs =
-    let x = c .before .before .before .before .before .before .before in
-    let l = x .before .loop in
-    let p = start x .pre in
-    let f = l .inv .1 in
+    let x = c .before .before .before .before .before .before .before in let l = x .before .loop in
+    let p = start x .pre in let f = l .inv .1 in
     let r = front-room (shape x) (p .0) (l .s) (x .loop-test .taken) in
     let k = front-lengths _ (p .0) _ (l .s) _ _ _ _ _ (l .inv .0) f (p .1) (p .2) in (
       omega (arith, r, f .place, witness-few (p .0)),
@@ -62,8 +60,7 @@ write-step-requires c κs =
 -- the hook is the step's
 hooked : (c : tie.After-hook-of Inv-loop μ-loop) → c .hook-of .result ≡ hook (shape (c .before .before .before)) (c .before .before .before .before .loop .s)
 hooked c =
-    let x = c .before .before .before in
-    let l = x .before .loop in
+    let x = c .before .before .before in let l = x .before .loop in
     hook-is (shape x) (start x .pre .0) (l .s) _ (l .nodes) (x .loop-test .taken) (l .inv .3) (c .hook-of .ensures .0) (c .hook-of .ensures .1)
 
 -- the first steps up to step s are written, when it is
@@ -72,44 +69,37 @@ written : (c : tie.After-slice-known4 Inv-loop μ-loop) → let w = c .before .b
     Front (shape (turn c)) (a .l) (turn c .before .loop .s + 1) (w .result) (now (a .parents)) (now (a .labels))
     (w .last .1 .1 .1 .1 .1 .0) (w .last .1 .1 .1 .1 .1 .1 .0)
 written c =
-    let x = turn c in
-    let y = c .before .before .before .before in
-    let s = start x in
-    let l = x .before .loop in
+    let x = turn c in let y = c .before .before .before .before in
+    let s = start x in let l = x .before .loop in
     front-more (shape x) (s .pre .0) (s .args .l) (l .s) (l .m) _ _ _ _ _ _ _ (x .loop-test .taken) (l .inv .1)
     (rw (hooked (y .before .before .before .before .before)) at (y .write-step .ensures)) (s .pre .1) (s .pre .2)
 
 cast-nodes : tie.Need-cast-nodes Inv-loop μ-loop
 cast-nodes c =
-    let x = turn c in
-    let p = start x .pre in
+    let x = turn c in let p = start x .pre in
     let d = descendants-le (shape x) (axes (p .0)) (x .before .loop .s + 1) (omega (arith, x .loop-test .taken)) in
     record { fits = omega (arith, written c .place, d, few x) }
 
 loop-again : tie.Need-loop-again Inv-loop μ-loop
 loop-again c =
-    let x = turn c in
-    let l = x .before .loop in
+    let x = turn c in let l = x .before .loop in
     let f = written c in
     (omega arith, f, simp length-set (l .inv .2), nodes-more _ (l .s) _ (l .nodes) (omega (arith, l .inv .2, few x)) (f .place) (l .inv .3))
 
 same-length : tie.Need-same-length Inv-loop μ-loop
 same-length c =
-    let m = c .before in
-    let p = m .before .before .before .pre in
+    let m = c .before in let p = m .before .before .before .pre in
     front-lengths _ (p .0) _ (m .loop .s) _ _ _ _ _ (m .loop .inv .0) (m .loop .inv .1) (p .1) (p .2) .0
 
 same-length-2 : tie.Need-same-length-2 Inv-loop μ-loop
 same-length-2 c =
-    let m = c .before in
-    let p = m .before .before .before .pre in
+    let m = c .before in let p = m .before .before .before .pre in
     front-lengths _ (p .0) _ (m .loop .s) _ _ _ _ _ (m .loop .inv .0) (m .loop .inv .1) (p .1) (p .2) .1
 
 returns : tie.Need-returns Inv-loop μ-loop
 unfolding witnessOf
 returns c =
-    let m = c .before in
-    let e : m .loop .s ≡ m .before .before .before .args .t1 .count = omega arith in
+    let m = c .before in let e : m .loop .s ≡ m .before .before .before .args .t1 .count = omega arith in
     let f = rw e at (m .loop .inv .1) in
     (f .place, (f .parent-list, f .label-list))
 

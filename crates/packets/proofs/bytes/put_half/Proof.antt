@@ -12,10 +12,7 @@ use Rattle.packets.proofs.bytes.put_half.Statement.{statement}
 use Rattle.packets.proofs.bytes.put_half.Tie as tie
 
 returns : tie.Need-returns
-returns c =
-    let x = c .args in
-    let e : x .at + 1 ≡ suc (x .at) = omega arith in
-    rw e (sets-eq (high (x .x) ∷ low (x .x) ∷ []) (now (x .out)) (x .at) (c .pre))
+returns c = let x = c .args in let e : x .at + 1 ≡ suc (x .at) = omega arith in rw e (sets-eq (high (x .x) ∷ low (x .x) ∷ []) (now (x .out)) (x .at) (c .pre))
 
 pub put-half-spec : {M : Type 1} → statement M
 put-half-spec = tie.close (tie.spec (λ c. search needs) (λ c. search needs) (λ c. search needs) (λ c. search needs)

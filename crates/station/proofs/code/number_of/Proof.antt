@@ -13,15 +13,13 @@ use Rattle.station.proofs.code.number_of.Tie as tie
 
 returns : tie.Need-returns
 returns c =
-    let n = c .before .before .a .given .0 .0 in
-    let e = c .before .before .a .given .1 in
+    let n = c .before .before .a .given .0 .0 in let e = c .before .before .a .given .1 in
     let s : n < 65536 = subst Small e (c .before .before .before .before .pre) in
     subst (λ x. toZ w64 (ofZ w64 (c .plus .result)) ≡ codeOf x) (sym e) (ap (λ z. toZ w64 (ofZ w64 z)) (c .plus .ensures) ∙ plus-result n s)
 
 returns-2 : tie.Need-returns-2
 returns-2 c =
-    let k = c .before .refusal-number .result in
-    let e = c .before .before .before .a2 .given .1 in
+    let k = c .before .refusal-number .result in let e = c .before .before .before .a2 .given .1 in
     let f : Fits w8 k = search needs in
     subst (λ x. toZ w64 (ofZ w64 (c .minus .result)) ≡ codeOf x) (sym e)
     (ap (λ z. toZ w64 (ofZ w64 z)) (c .minus .ensures) ∙ neg-result k (omega arith) ∙ ap (λ j. negℤ (pos j)) (c .before .refusal-number .ensures))

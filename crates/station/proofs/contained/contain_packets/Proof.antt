@@ -12,8 +12,7 @@ use Rattle.station.proofs.contained.contain_packets.Tie as tie
 few : (x : tie.After-answer) → (x .answer .given .0 .0 ≤ length (x .before .before .before .before .contains .last .1 .1 .0)) ×
     (x .answer .given .0 .0 ≤ length (x .before .before .before .before .contains .last .1 .1 .1 .0))
 few x =
-    let f = x .before .before .before .before in
-    let g = f .contains in
+    let f = x .before .before .before .before in let g = f .contains in
     let l = apart-few (f .before .before .before .before .before .read-two .ensures) (f .before .before .before .enum-told .given .1) (g .last .1 .1 .0)
     (g .last .1 .1 .1 .0) (g .result) (g .ensures)
     (x .answer .given .0 .0) (x .answer .given .0 .1 .0) (x .answer .given .1) in
@@ -21,8 +20,7 @@ few x =
 
 put-witness-requires : tie.Need-put-witness-requires
 put-witness-requires c κs =
-    let x = c .before .before .before .before in
-    let l = few x in
+    let x = c .before .before .before .before in let l = few x in
     (simp length-take (omega (arith, l .0, x .before .before .before .before .contains .kept)), simp length-take (omega (arith, l .0, l .1)))
 
 returns-2 : tie.Need-returns-2
@@ -36,8 +34,7 @@ returns-2 c =
 returns-3 : tie.Need-returns-3
 returns-3 c =
     let x = c .before .before .before .before .before .before .before in
-    let f = x .before .before .before .before in
-    let g = f .contains in
+    let f = x .before .before .before .before in let g = f .contains in
     contains-apart (f .before .before .before .before .before .read-two .ensures) (f .before .before .before .enum-told .given .1) (g .last .1 .1 .0)
     (g .last .1 .1 .1 .0) (g .result) (g .ensures)
     (x .answer .given .0 .0) (x .answer .given .0 .1 .0) (x .answer .given .1) (c .before .before .put-witness .result)
@@ -45,8 +42,7 @@ returns-3 c =
 
 returns-4 : tie.Need-returns-4
 returns-4 c =
-    let f = c .before .before .before .before .before in
-    let g = f .contains in
+    let f = c .before .before .before .before .before in let g = f .contains in
     contains-refused (f .before .before .before .before .before .read-two .ensures) (f .before .before .before .enum-told .given .1) (g .last .1 .1 .0)
     (g .last .1 .1 .1 .0) (g .result) (g .ensures)
     (c .before .answer2 .given .0 .0) (c .before .answer2 .given .1) refl

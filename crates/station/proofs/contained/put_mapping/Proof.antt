@@ -25,8 +25,7 @@ loop-holds c = search needs
 
 loop-again : tie.Need-loop-again Inv-loop μ-loop
 loop-again c =
-    let l = c .before .before .loop in
-    let a = c .before .before .before .before .args in
+    let l = c .before .before .loop in let a = c .before .before .before .before .args in
     (omega arith, simp length-set (l .inv .1), rw (l .inv .2) (column-next (λ j. getD (a .t1) j (stepNo 0) .0) (now (a .room)) (l .k) _ (omega arith) refl))
 
 returns-2 : tie.Need-returns-2 Inv-loop μ-loop

@@ -19,8 +19,7 @@ returns c =
 
 returns-2 : tie.Need-returns-2
 returns-2 c =
-    let a = c .before .before .before .before .before .before .args in
-    let q = c .before .q .given .0 .0 in
+    let a = c .before .before .before .before .before .before .args in let q = c .before .q .given .0 .0 in
     let v = subst (ChecksDocument (documentOf (now (a .parents)) (now (a .labels)))) (c .before .q .given .1)
     (c .before .before .before .check-document .ensures) in
     record { says = ⊎-elim (λ w. inl (w .0, number-unique q BadDocument (w .1))) (λ w. absurd (w .1)) (v .0) }

@@ -18,8 +18,7 @@ entry d = d .before .before .before .before .before .before .before .before .bef
 
 few : (x : tie.After-n) → (x .n .given .0 .0 ≤ length (call x .read-nodes .last .1 .0)) × (x .n .given .0 .0 ≤ length (call x .read-nodes .last .1 .1 .0))
 few x =
-    let a = entry (call x) .args in
-    let d = call x .read-nodes in
+    let a = entry (call x) .args in let d = call x .read-nodes in
     let l = nodes-few (now (a .document)) (now (a .pattern)) (now (a .parents)) (now (a .labels)) (d .last .1 .0) (d .last .1 .1 .0) (d .result) (d .ensures)
     (x .n .given .0 .0) (x .n .given .1) in
     (omega (arith, l, d .kept, entry (call x) .pre .0), omega (arith, l, d .kept, entry (call x) .pre .1))
@@ -33,19 +32,15 @@ returns c =
 
 returns-2 : tie.Need-returns-2
 returns-2 c =
-    let x = c .before .before .before in
-    let a = entry (call x) .args in
-    let d = call x .read-nodes in
-    let p = call x .before .before .before .before .read-pattern in
+    let x = c .before .before .before in let a = entry (call x) .args in
+    let d = call x .read-nodes in let p = call x .before .before .before .before .read-pattern in
     both-right (now (a .document)) (now (a .pattern)) (now (a .parents)) (now (a .labels)) (d .last .1 .0) (d .last .1 .1 .0) (d .result) (d .ensures)
     (x .n .given .0 .0) (x .n .given .1) (p .result) (p .ensures) (c .enum-told .given .1)
 
 returns-3 : tie.Need-returns-3
 returns-3 c =
-    let x = c .before .before .before .before .before .before .before in
-    let a = entry (call x) .args in
-    let d = call x .read-nodes in
-    let p = call x .before .before .before .before .read-pattern in
+    let x = c .before .before .before .before .before .before .before in let a = entry (call x) .args in
+    let d = call x .read-nodes in let p = call x .before .before .before .before .read-pattern in
     let t = c .before .before .before .before .told in
     both-no-pattern (now (a .document)) (now (a .pattern)) (now (a .parents)) (now (a .labels)) (d .last .1 .0) (d .last .1 .1 .0) (d .result) (d .ensures)
     (x .n .given .0 .0) (x .n .given .1) (p .result) (p .ensures) (t .given .0 .0) (c .after-rules .result) (t .given .1) (c .after-rules .ensures)

@@ -43,16 +43,14 @@ enough y = ltb-false (counted y .read .given .0 .0) (length (starts (counted y))
 
 returns-2 : tie.Need-returns-2
 returns-2 c =
-    let x = c .before .before .before .before .before in
-    let n = x .read .given .0 .0 in
+    let x = c .before .before .before .before .before in let n = x .read .given .0 .0 in
     starts-none (both x) (starts x) (c .after-rules .result)
     (⊎-elim (λ t. inl (λ z. omega arith)) (λ t. inr (ltb-true n (length (starts x) / 2) (t .1 .taken))) (c .before .if1 .came)) (c .after-rules .ensures) refl
 
 put-answers-requires : tie.Need-put-answers-requires
 put-answers-requires c κs =
     let w = c .before .before .before .before .before .before .before in
-    let g = w .before .before .before .before .before .get-halves in
-    let s = w .started in
+    let g = w .before .before .before .before .before .get-halves in let s = w .started in
     let x = counted (w .before .before .before .before .before .before .before) in
     let k = starts-count (both x) (starts x) (g .last .1 .1 .1 .1 .0) (s .last .1 .1 .1 .1 .0) (s .last .1 .1 .1 .1 .1 .0) (g .ensures)
     (even (w .before .before .before .before .before .before .before))
@@ -62,8 +60,7 @@ put-answers-requires c κs =
 returns-3 : tie.Need-returns-3
 returns-3 c =
     let w = c .before .before .before .before .before .before .before .before .before .before in
-    let g = w .before .before .before .before .before .get-halves in
-    let s = w .started in
+    let g = w .before .before .before .before .before .get-halves in let s = w .started in
     let x = counted (w .before .before .before .before .before .before .before) in
     starts-put (both x) (starts x) (g .last .1 .1 .1 .1 .0) (s .last .1 .1 .1 .1 .0) (s .last .1 .1 .1 .1 .1 .0) (g .ensures)
     (even (w .before .before .before .before .before .before .before)) (s .result) (s .ensures)
@@ -73,8 +70,7 @@ returns-3 c =
 returns-4 : tie.Need-returns-4
 returns-4 c =
     let w = c .before .before .before .before .before in
-    let g = w .before .before .before .before .before .get-halves in
-    let s = w .started in
+    let g = w .before .before .before .before .before .get-halves in let s = w .started in
     let x = counted (w .before .before .before .before .before .before .before) in
     starts-refused (both x) (starts x) (g .last .1 .1 .1 .1 .0) (s .last .1 .1 .1 .1 .0) (s .last .1 .1 .1 .1 .1 .0) (g .ensures)
     (even (w .before .before .before .before .before .before .before)) (s .result)
@@ -91,14 +87,12 @@ start-packets-spec = tie.close (tie.spec (λ c. search needs) (λ c. search need
       arith,
       enough (c .before .before .before),
       both-few (both (c .before .before .before .before .before .before .before .before)),
-      c .before
-          .get-halves .kept,
+      c .before .get-halves .kept,
     ))
     (λ c. simp length-take (omega (
       arith,
       enough (c .before .before .before .before),
-      both-few
-          (both (c .before .before .before .before .before .before .before .before .before)),
+      both-few (both (c .before .before .before .before .before .before .before .before .before)),
       c .before .before .get-halves .kept,
     )))
     (λ c. search needs) (λ c. search needs) (λ c κs. search needs) (λ c. search needs) (λ c. search needs) put-answers-requires (λ c. search needs)

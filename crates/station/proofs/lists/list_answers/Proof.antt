@@ -9,8 +9,7 @@ use Rattle.station.proofs.lists.list_answers.Tie as tie
 
 returns : tie.Need-returns
 returns c =
-    let x = c .before .before .before in
-    let a = x .before .before .before .before .before .before .args in
+    let x = c .before .before .before in let a = x .before .before .before .before .before .before .args in
     list-unread (documentOf (now (a .parents)) (now (a .labels))) (now (a .pattern)) (now (a .list)) (now (a .work)) _ _ (x .read-pattern .result)
     (x .read-pattern .ensures) (c .before .read .given .0 .0) (c .before .read .given .1) refl refl
 

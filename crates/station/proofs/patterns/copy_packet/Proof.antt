@@ -15,8 +15,7 @@ returns c =
 
 returns-2 : tie.Need-returns-2
 returns-2 c =
-    let x = c .before .before .before .before .before .before in
-    let w = c .before .before .write-pattern in
+    let x = c .before .before .before .before .before .before in let w = c .before .before .write-pattern in
     copy-written (now (x .before .before .before .args .pattern)) (x .read-pattern .result) (x .read-pattern .ensures)
     (λ k. omega (arith, x .before .before .shared-slice-known .given k))
     (c .before .before .before .before .enum-told .given .1) (w .result) (w .ensures)

@@ -13,8 +13,7 @@ returns-2 c =
 
 returns-3 : tie.Need-returns-3
 returns-3 c =
-    let j = c .before .before .before .before .before .before in
-    let w = c .before .before .write-pattern in
+    let j = c .before .before .before .before .before .before in let w = c .before .before .write-pattern in
     join-written (j .before .before .before .read-two .ensures) (j .before .enum-told .given .1) (j .join .result) (j .join .ensures) (w .result)
     (c .before .before .before .before .enum-told2 .given .1) (w .ensures)
 

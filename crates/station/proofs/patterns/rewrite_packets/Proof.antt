@@ -7,8 +7,7 @@ use Rattle.station.proofs.patterns.rewrite_packets.Tie as tie
 
 returns-2 : tie.Need-returns-2
 returns-2 c =
-    let j = c .before .before .before .before .before .before in
-    let w = c .before .before .write-pattern in
+    let j = c .before .before .before .before .before .before in let w = c .before .before .write-pattern in
     rewrite-handed (j .before .before .before .read-two .ensures) (j .before .enum-told .given .1) (j .rewrite .result) (j .rewrite .ensures) (w .result)
     (c .before .before .before .before .enum-told2 .given .1) (w .ensures)
 
