@@ -92,7 +92,7 @@ module _ (bs : List ℕ) (n : ℕ) (m : 8716 ≤ n) (l : n < length bs) where
           (λ z. omega (arith, z .1 .field, z .1 .few, field-there 0 (omega arith))) (λ z. omega (arith, z .1 .field, z .1 .few, part-half bs 0)) w
 
   -- a packet begins at byte u of the front and at byte o of the input, which are one, and early enough
-  record Begins (u o : ℕ) : Type 0 where
+  record BeginsAt (u o : ℕ) : Type 0 where
     same : u ≡ o
     low : o ≤ 8455
 
@@ -108,10 +108,10 @@ module _ (bs : List ℕ) (n : ℕ) (m : 8716 ≤ n) (l : n < length bs) where
     unfolding nextAt
     document-low = let z = p .1 .1 .0 in omega (arith, ap length (same-part 0 document-within), z .1 .present, z .1 .few)
 
-    view-begins : Begins (nextAt (take n bs) 0) (nextAt bs 0)
+    view-begins : BeginsAt (nextAt (take n bs) 0) (nextAt bs 0)
     view-begins = record { same = same-next 0 document-within; low = omega (arith, document-low) }
 
-  module _ {u o : ℕ} (e : Begins u o) where
+  module _ {u o : ℕ} (e : BeginsAt u o) where
     -- what refuses a pattern packet of the front refuses that of the input
     pattern-front : (r : Refusal) → Refuses (patternChecks (packetAt (take n bs) u)) r → Refuses (patternChecks (packetAt bs o)) r
     pattern-front r h = go (subst (λ k. Refuses (patternChecks (packetAt (take n bs) k)) r) (e .same) h) (decLt n (o + (half bs (o + 1) + 3)))
@@ -143,7 +143,7 @@ module _ (bs : List ℕ) (n : ℕ) (m : 8716 ≤ n) (l : n < length bs) where
       pattern-low = let z = there .1 .1 .0 in omega (arith, ap length (same-part o pattern-within), z .1 .present, z .1 .few)
 
   query-begins : (p : Passes (documentRules (packetAt (take n bs) 0))) → Passes (patternChecks (packetAt (take n bs) (nextAt (take n bs) 0)))
-      → Begins (nextAt (take n bs) (nextAt (take n bs) 0)) (nextAt bs (nextAt bs 0))
+      → BeginsAt (nextAt (take n bs) (nextAt (take n bs) 0)) (nextAt bs (nextAt bs 0))
   query-begins p q = record { same = pattern-next (view-begins p) q; low = omega (arith, document-low p, pattern-low (view-begins p) q) }
 
   -- so the front's text is that of the input, whichever case it is

@@ -14,7 +14,7 @@ use Rattle.tables.proofs.Columns.{put-next}
 use Rattle.tables.proofs.Rules.{shape-ordered}
 use Rattle.tables.proofs.Trees.{parent-lt}
 use Rattle.containment.specs.Witness.{descendants, ownNode, witnessSize, hook, parentsFor, labelsFor}
-use Rattle.containment.specs.inner.Results.{Wrote}
+use Rattle.containment.specs.inner.Results.{StepWrote}
 use Rattle.containment.proofs.Nodes.{descendants-le, descendants-mono}
 use Rattle.containment.proofs.Written.{parents-length, labels-length}
 use Rattle.containment.proofs.Contained.{axes}
@@ -78,7 +78,7 @@ module _ (A : Shape) (va : ValidShape A) where
       )
 
   module _ (l s m r : ℕ) (parents₀ labels₀ parents labels parents′ labels′ : List ℕ) (h : s < A .tree .size)
-      (f : Front A l s m parents₀ labels₀ parents labels) (w : Wrote (A .axis s) (hook A s) (A .label s) l m parents labels r parents′ labels′)
+      (f : Front A l s m parents₀ labels₀ parents labels) (w : StepWrote (A .axis s) (hook A s) (A .label s) l m parents labels r parents′ labels′)
       (room : witnessSize A ≤ length parents₀) (wide : witnessSize A ≤ length labels₀) where
     pl : length (blocks (parentsFor A) s) ≡ m
     pl = parents-length A (axes va) s (omega arith) ∙ sym (f .place)

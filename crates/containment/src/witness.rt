@@ -5,7 +5,7 @@ ghost use Prim.Native.Nat.{_+_, _≤_, _<_};
 ghost use lib.ListN.{length, getD, drop};
 ghost use Rattle.tables.specs.Pattern.{shapeOf, ValidPattern};
 ghost use Rattle.containment.specs.Witness.{descendants, ownNode, witnessSize, witnessOf};
-ghost use Rattle.containment.specs.inner.Results.{Wrote};
+ghost use Rattle.containment.specs.inner.Results.{StepWrote};
 use tables::Pattern;
 
 // How many of the first k steps have axis descendant.
@@ -50,7 +50,7 @@ fn write_step(
     labels: &mut [u16],
 ) -> usize
     requires { ⌜ (m < 65535) × (axis ≤ 1) × (m + axis < length (now parents)) × (m + axis < length (now labels)) ⌝ }
-    ensures { λ r. ⌜ Wrote axis hook label l m (now (parents .entry)) (now (labels .entry)) r (now (parents .exit)) (now (labels .exit)) ⌝ }
+    ensures { λ r. ⌜ StepWrote axis hook label l m (now (parents .entry)) (now (labels .entry)) r (now (parents .exit)) (now (labels .exit)) ⌝ }
 {
     parents[m] = hook;
     if axis == 0 {

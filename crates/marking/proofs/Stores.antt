@@ -7,7 +7,7 @@ use native.Mathlib.Omega.{arith}
 use lib.Bits.{bitOr}
 use lib.ListN.{length, getD, set, drop, replicate, length-set, length-append, length-drop, length-replicate, getD-replicate, List·getD-append}
 use lib.Seq.{getD-set-same, getD-set-other, getD-append-add, getD-drop}
-use Rattle.marking.specs.Entries.{Handed}
+use Rattle.marking.specs.Entries.{HandedUp}
 
 -- a node's two entries stored
 abbrev stored : List ℕ → ℕ → ℕ → ℕ → List ℕ
@@ -45,7 +45,7 @@ module _ (w : List ℕ) (i p fit below seed : ℕ) (late : p < i) (room : 2 * i 
   past : (q : ℕ) → 2 * i + 2 ≤ q → getD (handed w i p fit below seed) q 0 ≡ getD w q 0
   past q l = old₃ q (omega arith) (omega arith) ∙ old₁ q (omega arith) (omega arith)
 
-  pub handed-is : Handed w i p fit below seed (handed w i p fit below seed)
+  pub handed-is : HandedUp w i p fit below seed (handed w i p fit below seed)
   handed-is = record {
     same-length = length-set w₂ (2 * p + 1) _ ∙ long₂;
     turn = record {

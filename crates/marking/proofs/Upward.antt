@@ -17,7 +17,7 @@ use Rattle.placing.proofs.Fit.{Able}
 use Rattle.placing.proofs.Sending.{task, reaches-able}
 use Rattle.plan.specs.Steps.{FitsBy}
 use Rattle.plan.proofs.Rising.{Risen, risen-start, risen-turn, risen-fits, along}
-use Rattle.marking.specs.Entries.{first, second, Handed, Fitted}
+use Rattle.marking.specs.Entries.{first, second, HandedUp, Fitted}
 
 -- step s with all steps below it can be placed with s at node i
 abbrev pub Fits : Shape → Document → ℕ → ℕ → Type 0
@@ -55,7 +55,7 @@ module _ (A : Shape) (d : Document) (va : ValidShape A) (vd : ValidDocument d) (
 
   -- one turn
   pub up-turn : (i p x : ℕ) (before work after : List ℕ) → Child (nodesOf d .tree) p i → Upward A d seed (suc i) before work → Marks x (Fits A d i)
-      → Handed work i p x (second work i) seed after → Upward A d seed i before after
+      → HandedUp work i p x (second work i) seed after → Upward A d seed i before after
   up-turn i p x before work after c u m h = record {
     same-length = h .same-length ∙ u .same-length;
     risen = risen-turn (nodesOf d) (Fits A d) (document-ordered vd) i p x x (first work) (second work) (first after) (second after) c (u .risen) m

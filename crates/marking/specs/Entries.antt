@@ -1,7 +1,7 @@
 -- The entries of the working list and of the answer list, node by node. Only private functions of the Answers call cite this file: a reader of the public
 -- contracts need not read it.
 --   first, second  the two entries of each node in the working list
---   Handed         one node's turn in the first pass
+--   HandedUp         one node's turn in the first pass
 --   Fitted         what the first pass leaves
 --   Marked         a node is marked as a start
 --   Noted          one node's turn in the answer list
@@ -25,7 +25,7 @@ abbrev pub second : List ℕ → ℕ → ℕ
 second work i = getD work (2 * i + 1) 0
 
 -- node i gets its first entry and the seed, and its parent p gathers what fits at i and below
-pub record Handed (before : List ℕ) (i p fit below seed : ℕ) (after : List ℕ) : Type 0 where
+pub record HandedUp (before : List ℕ) (i p fit below seed : ℕ) (after : List ℕ) : Type 0 where
   pub same-length : length after ≡ length before
   pub turn : Turned i p fit fit below (first before) (second before) (first after) (second after)
   pub seeded : second after i ≡ seed

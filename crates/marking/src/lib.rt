@@ -10,7 +10,7 @@ ghost use Rattle.tables.specs.Document.{Document, nodeCount, ValidDocument, doc
 ghost use Rattle.tables.specs.Pattern.{Shape, shapeOf, ValidPattern};
 ghost use Rattle.placing.specs.Answer.{In, StartList};
 ghost use Rattle.plan.specs.Plans.{TablePlan};
-ghost use Rattle.marking.specs.Entries.{Handed, Fitted, Marked, Noted};
+ghost use Rattle.marking.specs.Entries.{HandedUp, Fitted, Marked, Noted};
 use plan::BYTE;
 use plan::STEPS;
 use plan::Sets;
@@ -30,7 +30,7 @@ fn clear(work: &mut [u64], m: usize)
 // Node i gets its first entry and the seed; its parent p gathers what fits at i and below it.
 fn hand_up(work: &mut [u64], i: usize, p: usize, fit: u64, below: u64, seed: u64)
     requires { ⌜ (p < i) × (i < 2048) × (2 * i + 1 < length (now work)) ⌝ }
-    ensures { λ _. ⌜ Handed (now (work .entry)) i p fit below seed (now (work .exit)) ⌝ }
+    ensures { λ _. ⌜ HandedUp (now (work .entry)) i p fit below seed (now (work .exit)) ⌝ }
 {
     work[2 * i] = fit;
     work[2 * i + 1] = seed;

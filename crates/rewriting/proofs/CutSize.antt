@@ -16,8 +16,8 @@ pub record Taken (T : Tree) (c u : ℕ) : Type 0 where
   pub each : (w : ℕ) → c ≤ w → w < u → From T c w
 
 -- the r rows from c on are c or below it, and no other is
-abbrev pub Whole : Tree → ℕ → ℕ → Type 0
-Whole T c r = ((u : ℕ) → From T c u → u < c + r) × ((t : ℕ) → t < r → From T c (c + t))
+abbrev pub CutSteps : Tree → ℕ → ℕ → Type 0
+CutSteps T c r = ((u : ℕ) → From T c u → u < c + r) × ((t : ℕ) → t < r → From T c (c + t))
 
 -- c itself is the first
 pub taken-one : (T : Tree) (c : ℕ) → c < T .size → Taken T c (c + 1)
@@ -37,15 +37,15 @@ module _ {T : Tree} (v : Ordered T) {c u : ℕ} (r : Taken T c u) where
       }
 
   -- where no row from u on is, the run is whole
-  whole : ((x : ℕ) → From T c x → x < u) → Whole T c (u - c)
+  whole : ((x : ℕ) → From T c x → x < u) → CutSteps T c (u - c)
   whole f = (λ x w. omega (arith, f x w, r .past), λ t l. r .each (c + t) (omega arith) (omega arith))
 
   -- where the rows end, all are taken
-  pub taken-end : T .size ≤ u → Whole T c (u - c)
+  pub taken-end : T .size ≤ u → CutSteps T c (u - c)
   taken-end l = whole (λ x w. omega (arith, from-here (omega (arith, r .past, r .here)) w))
 
   -- and where a row hangs before c
-  pub taken-stop : T .parent u < c → Whole T c (u - c)
+  pub taken-stop : T .parent u < c → CutSteps T c (u - c)
   taken-stop h = whole (λ x w. go x w (decLt x u))
     where
       no-later : (x : ℕ) → From T c x → u ≤ x → ⊥

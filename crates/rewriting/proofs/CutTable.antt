@@ -10,7 +10,7 @@ use Rattle.tables.proofs.Rules.{shape-ordered}
 use Rattle.tables.proofs.Trees.{from-le}
 use Rattle.rewriting.specs.Candidate.{Cut}
 use Rattle.rewriting.proofs.Cuts.{cutShape, cut-shape, cut-valid, cut-small}
-use Rattle.rewriting.proofs.CutSize.{Whole}
+use Rattle.rewriting.proofs.CutSize.{CutSteps}
 
 module _ (q : Pattern) (v : ValidPattern q) (c : ℕ) (w : From (shapeOf q .tree) c (shapeOf q .output)) where
   -- the step is one of the pattern's
@@ -29,7 +29,7 @@ module _ (q : Pattern) (v : ValidPattern q) (c : ℕ) (w : From (shapeOf q .tree
   cut-rules = cut-valid v cut-is cut-here w
 
   -- its size is that of the run from c on
-  pub whole-size : (r : ℕ) → Whole (shapeOf q .tree) c r → r ≡ cutShape (shapeOf q) c .tree .size
+  pub whole-size : (r : ℕ) → CutSteps (shapeOf q .tree) c r → r ≡ cutShape (shapeOf q) c .tree .size
   whole-size r h = go (decLt r m) (decLt m r)
     where
       m : ℕ

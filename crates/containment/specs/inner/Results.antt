@@ -1,7 +1,7 @@
 -- What the private functions of containment answer. Only private functions cite this file: a reader of the public contracts need not read it.
 --   FreshOr0   the fresh label of two patterns, 0 where none is left
 --   Chosen     the smallest mapping as an array
---   Wrote      the nodes of one step of a witness
+--   StepWrote      the nodes of one step of a witness
 -- Assumes nothing.
 use Prim.Native.Nat.{ℕ, zero, suc, _+_, _≤_, _<_}
 use mathlib.Core.Path.{_≡_}
@@ -26,6 +26,6 @@ pub record Chosen (B A : Shape) (mapping : List StepNo) : Type 0 where
   pub array : mapping ≡ mappingArray by (B .tree .size)
 
 -- from place m on, the nodes of a step with this axis, hook and label were put into both lists; the next place is r
-pub record Wrote (axis hook label l m : ℕ) (parents₀ labels₀ : List ℕ) (r : ℕ) (parents labels : List ℕ) : Type 0 where
+pub record StepWrote (axis hook label l m : ℕ) (parents₀ labels₀ : List ℕ) (r : ℕ) (parents labels : List ℕ) : Type 0 where
   pub one : axis ≡ 0 → (r ≡ m + 1) × (parents ≡ set parents₀ m hook) × (labels ≡ set labels₀ m label)
   pub two : axis ≡ 1 → (r ≡ m + 2) × (parents ≡ set (set parents₀ m hook) (m + 1) m) × (labels ≡ set (set labels₀ m l) (m + 1) label)

@@ -1,4 +1,4 @@
--- The four stores leave what `Handed` says. Assumes nothing.
+-- The four stores leave what `HandedUp` says. Assumes nothing.
 use Rattle.marking.proofs.Stores.{handed-is}
 use denote.Ref.{now}
 use native.Mathlib.Omega.{arith}
