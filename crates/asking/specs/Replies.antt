@@ -68,8 +68,8 @@ pub data Replies (bs text : List ℕ) : Type 0 where
   -- the document packet is refused
   document : (r : Refusal) → Refuses (documentRules (documentPart bs)) r → text ≡ refusedLine (number r) documentWord → Replies bs text
   -- the document packet is right, the view packet is refused
-  view : (r : Refusal) → Passes (documentRules (documentPart bs)) → Refuses (patternChecks (viewPart bs)) r → text ≡ refusedLine (number r) viewWord → Replies
-      bs text
+  view : (r : Refusal) → Passes (documentRules (documentPart bs)) → Refuses (patternChecks (viewPart bs)) r → text ≡ refusedLine (number r) viewWord
+      → Replies bs text
   -- the query packet is refused
   query : (r : Refusal) → ViewRight bs → Refuses (patternChecks (queryPart bs)) r → text ≡ refusedLine (number r) queryWord → Replies bs text
   -- all three are right, and bytes stand past them

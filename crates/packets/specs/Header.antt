@@ -17,5 +17,5 @@ pub record Sized (bs : List ℕ) (extra most n : ℕ) : Type 0 where
 -- what reading checks first: fewer than 3 bytes, the version, the rest of the length
 abbrev pub headChecks : List ℕ → ℕ → ℕ → List Check
 headChecks bs extra most =
-    record { asks = 3 ≤ length bs; gives = 2 } ∷ record { asks = getD bs 0 0 ≡ 1; gives = 1 } ∷ record { asks = (n : ℕ) × Sized bs extra most n; gives = 2 } ∷
-    []
+    record { asks = 3 ≤ length bs; gives = 2 } ∷ record { asks = getD bs 0 0 ≡ 1; gives = 1 }
+    ∷ record { asks = (n : ℕ) × Sized bs extra most n; gives = 2 } ∷ []
