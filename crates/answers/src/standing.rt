@@ -12,13 +12,11 @@ ghost use Rattle.marking.specs.Entries.{Marked};
 ghost use Rattle.answers.specs.Answers.{Found};
 ghost use Rattle.answers.specs.inner.Standing.{Ready, PassedOn, Downward};
 ghost use Rattle.answers.specs.Working.{PlacedAt};
-use plan::STEPS;
 use plan::Sets;
 use plan::TABLE;
+use tables::NODES;
 use tables::Pattern;
-
-// The nodes of a document at most.
-const NODES: usize = 2048;
+use tables::STEPS;
 
 // What the parent of node i allows; node 0 has no parent.
 fn above(allowed: &[u64; NODES], parents: &[u16], i: usize) -> u64

@@ -19,6 +19,7 @@ use packets::PatternRead;
 use rewriting::Rewriting;
 use tables::Checked;
 use tables::Counted;
+use tables::NODES;
 use tables::Pattern;
 use tables::Refusal;
 
@@ -108,7 +109,7 @@ fn put_started(
     ensures { λ r. ⌜ WroteLine (Started (In (now (starts .entry))) (shapeOf e) (documentOf (now (parents .entry)) (now (labels .entry))))
         rewritingWord (now (out .entry)) at r (now (out .exit)) ⌝ }
 {
-    let mut list = [0u16; 2048];
+    let mut list = [0u16; NODES];
     let c = find_started(e, parents, labels, starts, &mut list);
     text::put_line(out, at, b"rewriting", &list[..c])
 }
@@ -148,8 +149,8 @@ fn put_answers(q: Pattern, v: Pattern, parents: &[u16], labels: &[u16], out: &mu
     requires { ⌜ 32768 ≤ length (now out) ⌝ }
     ensures { λ r. ⌜ WroteAnswers (documentOf (now (parents .entry)) (now (labels .entry))) q v (now (out .entry)) r (now (out .exit)) ⌝ }
 {
-    let mut views = [0u16; 2048];
-    let mut queries = [0u16; 2048];
+    let mut views = [0u16; NODES];
+    let mut queries = [0u16; NODES];
     let c = find(v, parents, labels, &mut views);
     let e = find(q, parents, labels, &mut queries);
     let seen = &views[..c];
@@ -189,8 +190,8 @@ fn put_reply(input: &[u8], out: &mut [u8]) -> usize
     requires { ⌜ 32768 ≤ length (now out) ⌝ }
     ensures { λ r. ⌜ Printed (now (input .entry)) (now (out .entry)) r (now (out .exit)) ⌝ }
 {
-    let mut parents = [0u16; 2048];
-    let mut labels = [0u16; 2048];
+    let mut parents = [0u16; NODES];
+    let mut labels = [0u16; NODES];
     let a = next_at(input, 0);
     match packets::read_document(&input[..a], &mut parents, &mut labels) {
         Counted::Refused(r) => text::put_refused(out, 0, number_of(r), b"document"),

@@ -5,10 +5,11 @@ ghost use Rattle.mappings.specs.Fits.{FitsIn, FitTable, Picks};
 ghost use Rattle.containment.specs.inner.Results.{Chosen};
 ghost use Rattle.containment.specs.Mapping.{BeginsIn};
 use tables::Pattern;
+use tables::STEPS;
 use tables::StepNo;
 
 // The smallest mapping of b into a, where step 0 goes to `first`.
-pub(crate) fn choose(a: Pattern, b: Pattern, fit: &[u64; 64], first: usize) -> [StepNo; 64]
+pub(crate) fn choose(a: Pattern, b: Pattern, fit: &[u64; STEPS], first: usize) -> [StepNo; STEPS]
     requires { ⌜ ValidPattern a × ValidPattern b ⌝ }
     requires { ⌜ FitTable (shapeOf b) (shapeOf a) (now fit) ⌝ }
     requires { ⌜ Picks (λ j. BeginsIn (shapeOf b) (shapeOf a) j × FitsIn (shapeOf b) (shapeOf a) j 0) first × (first < 64) ⌝ }
@@ -16,7 +17,7 @@ pub(crate) fn choose(a: Pattern, b: Pattern, fit: &[u64; 64], first: usize) -> [
 {
     let parents = a.parent;
     let axes = a.axis;
-    let mut mapping = [StepNo(0); 64];
+    let mut mapping = [StepNo(0); STEPS];
     mapping[0] = StepNo(first as u8);
     let n = b.count;
     for t in 1..n {

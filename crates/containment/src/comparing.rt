@@ -10,6 +10,7 @@ use crate::choosing;
 use tables::Checked;
 use tables::Pattern;
 use tables::Refusal;
+use tables::STEPS;
 use tables::StepNo;
 
 // Contained, apart or refused: the verdict alone, with no witness.
@@ -22,7 +23,7 @@ pub(crate) enum Verdict {
 // The verdict, and beside it the mapping, all zero where the verdict is not `Contained`.
 pub(crate) struct VerdictAnswer {
     pub(crate) answer: Verdict,
-    pub(crate) mapping: [StepNo; 64],
+    pub(crate) mapping: [StepNo; STEPS],
 }
 
 // Is a contained in b, where both obey the rules: does b map into a?
@@ -30,9 +31,9 @@ pub(crate) fn within(a: Pattern, b: Pattern) -> bool
     requires { ⌜ ValidPattern a × ValidPattern b ⌝ }
     ensures { λ r. ⌜ T r ↔ Contained (shapeOf a) (shapeOf b) ⌝ }
 {
-    let mut fit = [0u64; 64];
+    let mut fit = [0u64; STEPS];
     mappings::fit_steps(a, b, &mut fit);
-    mappings::first_image(a.count, a.axis[0], b.axis[0], &fit) != 64
+    mappings::first_image(a.count, a.axis[0], b.axis[0], &fit) != mappings::NONE
 }
 
 // The verdict with no mapping.
@@ -41,7 +42,7 @@ fn beside(answer: Verdict) -> VerdictAnswer
 {
     VerdictAnswer {
         answer: answer,
-        mapping: [StepNo(0); 64],
+        mapping: [StepNo(0); STEPS],
     }
 }
 
@@ -50,10 +51,10 @@ fn compare(a: Pattern, b: Pattern) -> VerdictAnswer
     requires { ⌜ ValidPattern a × ValidPattern b ⌝ }
     ensures { λ r. ⌜ Decides a b r ⌝ }
 {
-    let mut fit = [0u64; 64];
+    let mut fit = [0u64; STEPS];
     mappings::fit_steps(a, b, &mut fit);
     let first = mappings::first_image(a.count, a.axis[0], b.axis[0], &fit);
-    if first == 64 {
+    if first == mappings::NONE {
         return beside(Verdict::Apart);
     }
     let mapping = choosing::choose(a, b, &fit, first);

@@ -19,6 +19,7 @@ use tables::Checked;
 use tables::NodeNo;
 use tables::Pattern;
 use tables::Refusal;
+use tables::STEPS;
 use tables::StepNo;
 
 // Contained; or apart, with the witness's node count and its answer node; or refused.
@@ -31,7 +32,7 @@ pub enum Containment {
 // The answer, and beside it the mapping, all zero where the answer is not `Contained`.
 pub struct ContainmentAnswer {
     pub answer: Containment,
-    pub mapping: [StepNo; 64],
+    pub mapping: [StepNo; STEPS],
 }
 
 // Whether two patterns have the same answers on every document, or the refusal.
@@ -118,7 +119,7 @@ fn beside(answer: Containment) -> ContainmentAnswer
 {
     ContainmentAnswer {
         answer: answer,
-        mapping: [StepNo(0); 64],
+        mapping: [StepNo(0); STEPS],
     }
 }
 

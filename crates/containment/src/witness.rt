@@ -7,6 +7,7 @@ ghost use Rattle.tables.specs.Pattern.{shapeOf, ValidPattern};
 ghost use Rattle.containment.specs.Witness.{descendants, ownNode, witnessSize, witnessOf};
 ghost use Rattle.containment.specs.inner.Results.{StepWrote};
 use tables::Pattern;
+use tables::STEPS;
 
 // How many of the first k steps have axis descendant.
 pub(crate) fn descendants_before(a: Pattern, k: usize) -> usize
@@ -29,7 +30,7 @@ pub(crate) fn own_node(a: Pattern, s: usize) -> usize
 }
 
 // The parent of the first node written for step s, which hangs on step p, where `nodes` has the nodes of the steps before s.
-fn hook_of(nodes: &[u16; 64], p: u8, s: usize) -> u16
+fn hook_of(nodes: &[u16; STEPS], p: u8, s: usize) -> u16
     requires { ⌜ (0 < s → p < 64) ⌝ }
     ensures { λ r. ⌜ (s ≡ 0 → r ≡ 65535) × (0 < s → r ≡ getD (now (nodes .entry)) p 0) ⌝ }
 {
@@ -71,7 +72,7 @@ pub(crate) fn write_witness(a: Pattern, l: u16, parents: &mut [u16], labels: &mu
     ensures labels { λ r. ⌜ now (labels .exit) ≡ witnessOf (shapeOf a) l .labels ++ drop r (now (labels .entry)) ⌝ }
 {
     let n = a.count;
-    let mut nodes = [0u16; 64];
+    let mut nodes = [0u16; STEPS];
     let mut m = 0;
     for s in 0..n {
         let hook = hook_of(&nodes, a.parent[s], s);

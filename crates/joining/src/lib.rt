@@ -6,6 +6,7 @@ ghost use Rattle.joining.specs.Join.{joinOf, Joinable, Joins};
 use tables::Checked;
 use tables::Pattern;
 use tables::Refusal;
+use tables::STEPS;
 use tables::StepNo;
 
 // What joining gives: the answer, and beside it the joined pattern, all zero where the pair is refused.
@@ -24,9 +25,9 @@ fn join_table(v: Pattern, e: Pattern) -> Pattern
     let more = e.count - 1;
     let n = v.count + more;
     let mut p = Pattern {
-        parent: [0u8; 64],
-        axis: [0u8; 64],
-        label: [0u16; 64],
+        parent: [0u8; STEPS],
+        axis: [0u8; STEPS],
+        label: [0u16; STEPS],
         count: n,
         output: StepNo(o + e.output.0),
     };
@@ -87,7 +88,7 @@ pub fn join(v: Pattern, e: Pattern) -> JoinAnswer
     if v.label[o] != e.label[0] {
         return beside(Refusal::OtherLabel);
     }
-    if 64 < v.count + (e.count - 1) {
+    if STEPS < v.count + (e.count - 1) {
         return beside(Refusal::TooLarge);
     }
     JoinAnswer {

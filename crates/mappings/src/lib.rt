@@ -12,9 +12,12 @@ ghost use Rattle.plan.specs.Plans.{GroupPlan};
 ghost use Rattle.plan.specs.Rising.{entries, Turned};
 ghost use Rattle.mappings.specs.Fits.{RightIn, FitTable, Picks, StepLists, ImageAt};
 use plan::BYTE;
-use plan::STEPS;
 use plan::Sets;
 use tables::Pattern;
+use tables::STEPS;
+
+// The answer of a search for a step that finds none: no pattern has so many.
+pub const NONE: usize = 64;
 
 // What of f goes up along an edge of this axis to the steps of axis child: all of it along a child edge.
 fn along(axis: u8, f: u64) -> u64
@@ -152,8 +155,8 @@ fn first_steps(n: usize, own: u8, axis: u8) -> usize
     0
 }
 
-// The smallest of n steps that may take step 0 of a pattern, whose axis is `axis`, where the first of them has axis `own`; 64 where there is none.
-pub fn first_image(n: usize, own: u8, axis: u8, fit: &[u64; 64]) -> usize
+// The smallest of n steps that may take step 0 of a pattern, whose axis is `axis`, where the first of them has axis `own`; NONE where there is none.
+pub fn first_image(n: usize, own: u8, axis: u8, fit: &[u64; STEPS]) -> usize
     requires { ⌜ (0 < n) × (n ≤ 64) ⌝ }
     ensures { λ r. ⌜ Picks (λ j. ((j < n) × (axis ≡ 0 → (j ≡ 0) × (own ≡ 0))) × (bit (getD (now (fit .entry)) j 0) 0 ≡ 1)) r ⌝ }
 {
@@ -163,7 +166,7 @@ pub fn first_image(n: usize, own: u8, axis: u8, fit: &[u64; 64]) -> usize
             return s;
         }
     }
-    64
+    NONE
 }
 
 // May a step that goes to step s, below q, be a step of this axis, where s hangs on p along an edge of axis `own`? And does it fit there?
@@ -183,13 +186,13 @@ fn takes(x: u64, t: usize, axis: u8, q: usize, p: usize, own: u8) -> bool
     own == 0
 }
 
-// The smallest of n steps that may take step t, of this axis, where its parent step is at q; 64 where there is none. The steps hang by `parents` and `axes`.
+// The smallest of n steps that may take step t, of this axis, where its parent step is at q; NONE where there is none. The steps hang by `parents` and `axes`.
 // What is below q stands in one run after q: where any step of it may take t, the first after q that fits is not past the run.
 pub fn next_image(
-    parents: &[u8; 64],
-    axes: &[u8; 64],
+    parents: &[u8; STEPS],
+    axes: &[u8; STEPS],
     n: usize,
-    fit: &[u64; 64],
+    fit: &[u64; STEPS],
     t: usize,
     axis: u8,
     q: usize,
@@ -205,5 +208,5 @@ pub fn next_image(
             return s;
         }
     }
-    64
+    NONE
 }

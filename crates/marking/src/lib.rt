@@ -12,10 +12,10 @@ ghost use Rattle.placing.specs.Answer.{In, StartList};
 ghost use Rattle.plan.specs.Plans.{TablePlan};
 ghost use Rattle.marking.specs.Entries.{HandedUp, Fitted, Marked, Noted};
 use plan::BYTE;
-use plan::STEPS;
 use plan::Sets;
 use plan::TABLE;
 use tables::Pattern;
+use tables::STEPS;
 
 // Zeros in the first m entries.
 fn clear(work: &mut [u64], m: usize)

@@ -36,10 +36,8 @@ pub fn get_halves(s: &[u8], at: usize, gap: usize, n: usize, list: &mut [u16])
     requires { ⌜ (n ≤ length (now list)) × ((i : ℕ) → i < n → at + gap * i + 1 < length (now s)) ⌝ }
     ensures { λ _. ⌜ now (list .exit) ≡ column (λ i. half (now (s .entry)) (at + gap * i)) n ++ drop n (now (list .entry)) ⌝ }
 {
-    let mut k = 0;
-    while k < n {
+    for k in 0..n {
         list[k] = get_half(s, at + gap * k);
-        k += 1;
     }
 }
 
@@ -48,9 +46,7 @@ pub fn put_halves(list: &[u16], n: usize, out: &mut [u8])
     requires { ⌜ (n ≤ length (now list)) × (2 * n ≤ length (now out)) ⌝ }
     ensures { λ _. ⌜ now (out .exit) ≡ blocks (halfBytes (now (list .entry))) n ++ drop (2 * n) (now (out .entry)) ⌝ }
 {
-    let mut k = 0;
-    while k < n {
+    for k in 0..n {
         put_half(out, 2 * k, list[k]);
-        k += 1;
     }
 }

@@ -15,8 +15,10 @@ pub mod bytes;
 
 use tables::Checked;
 use tables::Counted;
+use tables::NODES;
 use tables::Pattern;
 use tables::Refusal;
+use tables::STEPS;
 use tables::StepNo;
 
 // What reading a pattern packet gives: the answer, and beside it the pattern, all zero where the packet is refused.
@@ -58,18 +60,16 @@ fn pattern_in(s: &[u8], n: usize) -> Pattern
     ensures { λ r. ⌜ r ≡ packetPattern (now (s .entry)) ⌝ }
 {
     let mut p = Pattern {
-        parent: [0u8; 64],
-        axis: [0u8; 64],
-        label: [0u16; 64],
+        parent: [0u8; STEPS],
+        axis: [0u8; STEPS],
+        label: [0u16; STEPS],
         count: n,
         output: StepNo(s[3]),
     };
-    let mut k = 0;
-    while k < n {
+    for k in 0..n {
         p.parent[k] = s[4 + 4 * k];
         p.axis[k] = s[5 + 4 * k];
         p.label[k] = bytes::get_half(s, 6 + 4 * k);
-        k += 1;
     }
     p
 }
@@ -152,10 +152,8 @@ fn put_pattern(p: Pattern, out: &mut [u8])
     let n = p.count;
     put_head(out, (1 + 4 * n) as u16);
     out[3] = p.output.0;
-    let mut k = 0;
-    while k < n {
+    for k in 0..n {
         put_step(out, 4 + 4 * k, p.parent[k], p.axis[k], p.label[k]);
-        k += 1;
     }
 }
 
@@ -180,10 +178,8 @@ fn copy(src: &[u16], n: usize, dst: &mut [u16])
     requires { ⌜ (n ≤ length (now src)) × (n ≤ length (now dst)) × (n ≤ 2048) ⌝ }
     ensures { λ _. ⌜ now (dst .exit) ≡ take n (now (src .entry)) ++ drop n (now (dst .entry)) ⌝ }
 {
-    let mut k = 0;
-    while k < n {
+    for k in 0..n {
         dst[k] = src[k];
-        k += 1;
     }
 }
 
@@ -210,8 +206,8 @@ pub fn read_nodes(s: &[u8], parents: &mut [u16], labels: &mut [u16]) -> Counted
 pub fn read_document(s: &[u8], parents: &mut [u16], labels: &mut [u16]) -> Counted
     ensures { λ r. ⌜ ReadsDocument (now (s .entry)) (now (parents .entry)) (now (labels .entry)) r (now (parents .exit)) (now (labels .exit)) ⌝ }
 {
-    let mut own_parents = [0u16; 2048];
-    let mut own_labels = [0u16; 2048];
+    let mut own_parents = [0u16; NODES];
+    let mut own_labels = [0u16; NODES];
     let n = match read_nodes(s, &mut own_parents, &mut own_labels) {
         Counted::Count(n) => n,
         Counted::Refused(r) => return Counted::Refused(r),
@@ -245,10 +241,8 @@ pub fn put_document(parents: &[u16], labels: &[u16], out: &mut [u8])
 {
     let n = parents.len();
     put_head(out, (4 * n) as u16);
-    let mut i = 0;
-    while i < n {
+    for i in 0..n {
         put_node(out, 3 + 4 * i, parents[i], labels[i]);
-        i += 1;
     }
 }
 

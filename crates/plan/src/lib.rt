@@ -13,11 +13,10 @@ ghost use Rattle.plan.specs.Steps.{OfLabel, Labelled, SetsOf, Missing, L
 ghost use Rattle.plan.specs.Leading.{ToParent, Led, Doubled, Spread, lookUp, Groups, Reached};
 ghost use Rattle.plan.specs.Plans.{TablePlan, GroupPlan, DownPlan};
 use tables::Pattern;
+use tables::STEPS;
 
-// The values of a byte, the steps of a pattern at most, and the entries of a table that the bytes of a set of steps look up.
+// The values of a byte, and the entries of a table that the bytes of a set of steps look up.
 pub const BYTE: usize = 256;
-
-pub const STEPS: usize = 64;
 
 pub const TABLE: usize = 2048;
 

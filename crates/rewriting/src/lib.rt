@@ -15,6 +15,7 @@ use containment::Equality;
 use tables::Checked;
 use tables::Pattern;
 use tables::Refusal;
+use tables::STEPS;
 use tables::StepNo;
 
 // The steps that a query or a view for rewriting may have.
@@ -86,9 +87,9 @@ fn cut(q: Pattern, c: usize) -> Pattern
     let n = cut_size(q, c);
     let less = c as u8;
     let mut p = Pattern {
-        parent: [0u8; 64],
-        axis: [0u8; 64],
-        label: [0u16; 64],
+        parent: [0u8; STEPS],
+        axis: [0u8; STEPS],
+        label: [0u16; STEPS],
         count: n,
         output: StepNo(q.output.0 - less),
     };

@@ -14,20 +14,19 @@ use containment::Containment;
 use tables::Checked;
 use tables::Counted;
 use tables::Refusal;
+use tables::STEPS;
 use tables::StepNo;
 
 // The 64 steps of a mapping, a byte each, at the front of the room; the answer is 1.
-fn put_mapping(mapping: [StepNo; 64], room: &mut [u8]) -> Counted
+fn put_mapping(mapping: [StepNo; STEPS], room: &mut [u8]) -> Counted
     ensures { λ r. ⌜ Puts 517 (column (λ k. getD mapping k (stepNo 0) .0) 64) 64 1 (now (room .entry)) r (now (room .exit)) ⌝ }
 {
     if room.len() < 517 {
         return Counted::Refused(Refusal::Room);
     }
-    let mut k = 0;
-    while k < 64 {
+    for k in 0..STEPS {
         let s = mapping[k];
         room[k] = s.0;
-        k += 1;
     }
     Counted::Count(1)
 }

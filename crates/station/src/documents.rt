@@ -10,6 +10,7 @@ ghost use Rattle.station.specs.inner.Putting.{Puts};
 use packets::bytes;
 use tables::Checked;
 use tables::Counted;
+use tables::NODES;
 use tables::Pattern;
 use tables::Refusal;
 
@@ -84,9 +85,9 @@ fn put_answers(list: &[u16], c: usize, n: usize, room: &mut [u8]) -> Counted
 pub(crate) fn answer_packets(document: &[u8], pattern: &[u8], room: &mut [u8]) -> Counted
     ensures { λ r. ⌜ AnswersPackets (now (document .entry)) (now (pattern .entry)) (now (room .entry)) r (now (room .exit)) ⌝ }
 {
-    let mut parents = [0u16; 2048];
-    let mut labels = [0u16; 2048];
-    let mut list = [0u16; 2048];
+    let mut parents = [0u16; NODES];
+    let mut labels = [0u16; NODES];
+    let mut list = [0u16; NODES];
     let mut work = [0u64; 4096];
     let x = read_nodes_and_pattern(document, pattern, &mut parents, &mut labels);
     let read = x.answer;
@@ -109,10 +110,10 @@ pub(crate) fn start_packets(
 ) -> Counted
     ensures { λ r. ⌜ StartsPackets (now (document .entry)) (now (pattern .entry)) (now (starts .entry)) (now (room .entry)) r (now (room .exit)) ⌝ }
 {
-    let mut own_parents = [0u16; 2048];
-    let mut own_labels = [0u16; 2048];
-    let mut from = [0u16; 2048];
-    let mut list = [0u16; 2048];
+    let mut own_parents = [0u16; NODES];
+    let mut own_labels = [0u16; NODES];
+    let mut from = [0u16; NODES];
+    let mut list = [0u16; NODES];
     let mut work = [0u64; 4096];
     let x = read_nodes_and_pattern(document, pattern, &mut own_parents, &mut own_labels);
     let read = x.answer;

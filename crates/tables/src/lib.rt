@@ -26,9 +26,9 @@ pub struct NodeNo(pub u16);
 
 // A pattern: the first `count` entries of the three arrays are its steps, the others are not read.
 pub struct Pattern {
-    pub parent: [u8; 64],
-    pub axis: [u8; 64],
-    pub label: [u16; 64],
+    pub parent: [u8; STEPS],
+    pub axis: [u8; STEPS],
+    pub label: [u16; STEPS],
     pub count: usize,
     pub output: StepNo,
 }
@@ -80,9 +80,9 @@ pub fn no_pattern() -> Pattern
     ensures { λ r. ⌜ r ≡ zeroPattern ⌝ }
 {
     Pattern {
-        parent: [0u8; 64],
-        axis: [0u8; 64],
-        label: [0u16; 64],
+        parent: [0u8; STEPS],
+        axis: [0u8; STEPS],
+        label: [0u16; STEPS],
         count: 0,
         output: StepNo(0),
     }
@@ -127,12 +127,10 @@ pub fn check_document(parents: &[u16], labels: &[u16]) -> Checked
     if n == 0 || NODES < n || labels.len() != n {
         return Checked::Refused(Refusal::BadDocument);
     }
-    let mut i = 0;
-    while i < n {
+    for i in 0..n {
         if !node_right(parents, labels, i) {
             return Checked::Refused(Refusal::BadDocument);
         }
-        i += 1;
     }
     Checked::Right
 }
