@@ -9,7 +9,7 @@ use lib.ListN.{length, getD, take, drop, length-drop}
 use lib.Seq.{take-all, take-take, take-add, length-take-le, getD-take, getD-drop, drop-at}
 use Rattle.tables.specs.Refusal.{Passes, Refuses}
 use Rattle.tables.specs.declared.Refusal.{Refusal}
-use Rattle.packets.specs.Bytes.{half}
+use Rattle.halves.specs.Bytes.{half}
 use Rattle.packets.specs.PatternPacket.{patternChecks}
 use Rattle.packets.specs.DocumentPacket.{documentRules}
 use Rattle.asking.specs.Parts.{packetAt, nextAt}

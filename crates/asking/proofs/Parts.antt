@@ -9,7 +9,7 @@ use lib.Seq.{take-all, length-take-le}
 use Rattle.tables.specs.Refusal.{Passes, Refuses}
 use Rattle.tables.specs.declared.Refusal.{Refusal}
 use Rattle.tables.proofs.Outcomes.{last-holds}
-use Rattle.packets.specs.Bytes.{half}
+use Rattle.halves.specs.Bytes.{half}
 use Rattle.packets.specs.DocumentPacket.{nodesIn, documentChecks, documentRules}
 use Rattle.asking.specs.Parts.{packetAt, nextAt}
 

@@ -9,7 +9,7 @@
 use Prim.Native.Nat.{ℕ, _+_}
 use mathlib.Core.List.{List}
 use lib.ListN.{length, take, drop}
-use Rattle.packets.specs.Bytes.{half}
+use Rattle.halves.specs.Bytes.{half}
 
 -- the packet that begins at byte o, as long as its length field says; where the input ends early, what is left of it
 unfoldable pub packetAt : List ℕ → ℕ → List ℕ

@@ -39,7 +39,7 @@ fn next_at(input: &[u8], o: usize) -> usize
     if left < 3 {
         return input.len();
     }
-    let size = packets::bytes::get_half(input, o + 1) as usize + 3;
+    let size = halves::get_half(input, o + 1) as usize + 3;
     if left < size {
         return input.len();
     }

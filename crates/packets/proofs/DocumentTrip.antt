@@ -11,7 +11,7 @@ use Rattle.tables.specs.Refusal.{Check, Passes}
 use Rattle.tables.specs.declared.Counted.{Counted}
 use Rattle.tables.proofs.Columns.{blocks-ext, column-length, column-at, column-ext, column-self}
 use Rattle.tables.proofs.Refusals.{counted-unique}
-use Rattle.packets.specs.Bytes.{Bytes, high, low, half}
+use Rattle.halves.specs.Bytes.{Bytes, high, low, half}
 use Rattle.packets.specs.DocumentPacket.{nodeBytes, documentPacket, nodesIn, packetDocument, documentChecks, nodeChecks, ReadsBy, ReadsNodes}
 use Rattle.packets.specs.DocumentPacket.{ReadsDocument, putChecks, WritesDocument}
 use Rattle.packets.specs.Header.{Sized}

@@ -8,7 +8,7 @@ use lib.ListN.{length, getD, length-append}
 use lib.Seq.{getD-append-add}
 use Rattle.tables.specs.Column.{blocks, column}
 use Rattle.tables.proofs.Columns.{blocks-at, blocks-length, column-self}
-use Rattle.packets.specs.Bytes.{Bytes, high, low, half}
+use Rattle.halves.specs.Bytes.{Bytes, high, low, half}
 
 -- the two bytes of a number make it again
 pub half-of-bytes : (x : ℕ) → high x * 256 + low x ≡ x

@@ -1,6 +1,5 @@
 -- Laws of packets. Assumes nothing.
 pub mod Halves
-pub mod Rows
 pub mod Views
 pub mod PatternTrip
 pub mod Reading

@@ -13,7 +13,7 @@ use Rattle.tables.specs.declared.Counted.{Counted}
 use Rattle.tables.proofs.Columns.{blocks-ext}
 use Rattle.tables.proofs.Rules.{Agree, pattern-of-shape, agree-sym, agree-trans, pattern-of-agree}
 use Rattle.tables.proofs.Refusals.{decided-unique, counted-unique}
-use Rattle.packets.specs.Bytes.{Bytes, high, low, half}
+use Rattle.halves.specs.Bytes.{Bytes, high, low, half}
 use Rattle.packets.specs.PatternPacket.{patternLength, stepBytes, patternPacket, packetShape, packetPattern, patternChecks, ReadsPattern, writeChecks}
 use Rattle.packets.specs.PatternPacket.{WritesPattern}
 use Rattle.packets.specs.Header.{Sized}

@@ -13,7 +13,7 @@ use Rattle.tables.specs.declared.Refusal.{Refusal}
 use Rattle.tables.specs.declared.Counted.{Counted}
 use Rattle.tables.proofs.Columns.{column-length, put-next}
 use Rattle.tables.proofs.Outcomes.{last-holds}
-use Rattle.packets.specs.Bytes.{half}
+use Rattle.halves.specs.Bytes.{half}
 use Rattle.packets.specs.Header.{headChecks}
 use Rattle.packets.specs.DocumentPacket.{nodesIn, packetDocument, nodeChecks}
 use Rattle.packets.proofs.Views.{head-of, nodes-few}

@@ -10,7 +10,7 @@ use Rattle.tables.specs.Refusal.{Decided}
 use Rattle.tables.specs.declared.Pattern.{Pattern}
 use Rattle.tables.specs.declared.Checked.the-variants.{Right}
 use Rattle.tables.specs.declared.Counted.the-variants.{Count}
-use Rattle.packets.specs.Bytes.{Bytes}
+use Rattle.halves.specs.Bytes.{Bytes}
 use Rattle.packets.specs.PatternPacket.{patternPacket, packetPattern, patternChecks, ReadsPattern, WritesPattern}
 use Rattle.packets.specs.declared.PatternRead.{PatternRead}
 use Rattle.packets.proofs.Views.{read-of}

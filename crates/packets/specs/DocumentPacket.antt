@@ -23,7 +23,7 @@ use Rattle.tables.specs.Checks.{documentRight, roomFor}
 use Rattle.tables.specs.Document.{Document, nodeCount, documentOf}
 use Rattle.tables.specs.Refusal.{Check, CountedBy}
 use Rattle.tables.specs.declared.Counted.{Counted}
-use Rattle.packets.specs.Bytes.{high, low, half}
+use Rattle.halves.specs.Bytes.{high, low, half}
 use Rattle.packets.specs.Header.{headChecks}
 
 -- the four bytes of node i

@@ -5,7 +5,7 @@ use mathlib.Core.Path.{_≡_}
 use mathlib.Core.List.{List, [], _∷_}
 use lib.ListN.{length, getD}
 use Rattle.tables.specs.Refusal.{Check}
-use Rattle.packets.specs.Bytes.{half}
+use Rattle.halves.specs.Bytes.{half}
 
 -- the length field stands for n rows, `most` at most, after `extra` bytes, and agrees with the bytes present
 pub record Sized (bs : List ℕ) (extra most n : ℕ) : Type 0 where

@@ -1,5 +1,4 @@
 -- What a reader must believe of the packets, file by file. Assumes nothing.
-pub mod Bytes
 pub mod Header
 pub mod PatternPacket
 pub mod DocumentPacket

@@ -22,7 +22,7 @@ use Rattle.tables.specs.Checks.{patternRight, roomFor}
 use Rattle.tables.specs.Refusal.{Check, Decided, CountedBy}
 use Rattle.tables.specs.declared.Pattern.{Pattern}
 use Rattle.tables.specs.declared.Counted.{Counted}
-use Rattle.packets.specs.Bytes.{high, low, half}
+use Rattle.halves.specs.Bytes.{high, low, half}
 use Rattle.packets.specs.Header.{headChecks}
 use Rattle.packets.specs.declared.PatternRead.{PatternRead}
 use Rattle.packets.specs.declared.TwoRead.{TwoRead}

@@ -6,13 +6,10 @@ ghost use lib.ListN.{length, take, drop};
 ghost use Rattle.tables.specs.Document.{documentOf};
 ghost use Rattle.tables.specs.Pattern.{shapeOf};
 ghost use Rattle.tables.specs.Refusal.{CountedBy};
-ghost use Rattle.packets.specs.Bytes.{high, low, half};
+ghost use Rattle.halves.specs.Bytes.{high, low, half};
 ghost use Rattle.packets.specs.Header.{headChecks};
 ghost use Rattle.packets.specs.PatternPacket.{patternPacket, packetPattern, ReadsPattern, ReadsTwo, lengthOf, WritesPattern};
 ghost use Rattle.packets.specs.DocumentPacket.{documentPacket, ReadsNodes, ReadsDocument, sizeOf, WritesDocument};
-
-pub mod bytes;
-
 use tables::Checked;
 use tables::Counted;
 use tables::NODES;
@@ -46,7 +43,7 @@ fn rows_in(s: &[u8], extra: usize, most: usize) -> Counted
     if s[0] != 1 {
         return Counted::Refused(Refusal::Version);
     }
-    let field = bytes::get_half(s, 1) as usize;
+    let field = halves::get_half(s, 1) as usize;
     let n = field / 4;
     if n == 0 || most < n || field % 4 != extra || s.len() != field + 3 {
         return Counted::Refused(Refusal::Length);
@@ -69,7 +66,7 @@ fn pattern_in(s: &[u8], n: usize) -> Pattern
     for k in 0..n {
         p.parent[k] = s[4 + 4 * k];
         p.axis[k] = s[5 + 4 * k];
-        p.label[k] = bytes::get_half(s, 6 + 4 * k);
+        p.label[k] = halves::get_half(s, 6 + 4 * k);
     }
     p
 }
@@ -131,7 +128,7 @@ fn put_head(out: &mut [u8], field: u16)
     ensures { λ _. ⌜ now (out .exit) ≡ (1 ∷ high field ∷ low field ∷ []) ++ drop 3 (now (out .entry)) ⌝ }
 {
     out[0] = 1;
-    bytes::put_half(out, 1, field);
+    halves::put_half(out, 1, field);
 }
 
 // Puts the four bytes of a step at `at`.
@@ -141,7 +138,7 @@ fn put_step(out: &mut [u8], at: usize, parent: u8, axis: u8, label: u16)
 {
     out[at] = parent;
     out[at + 1] = axis;
-    bytes::put_half(out, at + 2, label);
+    halves::put_half(out, at + 2, label);
 }
 
 // The packet of a pattern, at the front of `out`.
@@ -195,8 +192,8 @@ pub fn read_nodes(s: &[u8], parents: &mut [u16], labels: &mut [u16]) -> Counted
     if parents.len() < n || labels.len() < n {
         return Counted::Refused(Refusal::Room);
     }
-    bytes::get_halves(s, 3, 4, n, parents);
-    bytes::get_halves(s, 5, 4, n, labels);
+    halves::get_halves(s, 3, 4, n, parents);
+    halves::get_halves(s, 5, 4, n, labels);
     Counted::Count(n)
 }
 
@@ -229,8 +226,8 @@ fn put_node(out: &mut [u8], at: usize, parent: u16, label: u16)
     ensures { λ _. ⌜ now (out .exit) ≡
         take at (now (out .entry)) ++ (high parent ∷ low parent ∷ high label ∷ low label ∷ []) ++ drop (at + 4) (now (out .entry)) ⌝ }
 {
-    bytes::put_half(out, at, parent);
-    bytes::put_half(out, at + 2, label);
+    halves::put_half(out, at, parent);
+    halves::put_half(out, at + 2, label);
 }
 
 // The packet of a document, at the front of `out`. For the crates above: asks for what they have checked.

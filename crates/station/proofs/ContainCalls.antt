@@ -18,7 +18,7 @@ use Rattle.tables.specs.declared.Checked.the-variants as checked
 use Rattle.tables.specs.declared.Counted.{Counted}
 use Rattle.tables.specs.declared.Counted.the-variants as counted
 use Rattle.tables.proofs.Outcomes.{refuses-front, refuses-rest, passes-both, last-holds}
-use Rattle.packets.specs.Bytes.{high, low}
+use Rattle.halves.specs.Bytes.{high, low}
 use Rattle.packets.specs.PatternPacket.{packetPattern, patternChecks, ReadsTwo}
 use Rattle.packets.specs.DocumentPacket.{documentPacket}
 use Rattle.packets.specs.declared.TwoRead.{TwoRead}

@@ -15,7 +15,7 @@ use Rattle.tables.specs.declared.Counted.{Counted}
 use Rattle.tables.specs.declared.Counted.the-variants as counted
 use Rattle.tables.proofs.Columns.{blocks-ext}
 use Rattle.tables.proofs.Outcomes.{refuses-front, passes-front, passes-rest}
-use Rattle.packets.specs.Bytes.{halfBytes}
+use Rattle.halves.specs.Bytes.{halfBytes}
 use Rattle.packets.specs.PatternPacket.{packetPattern, patternChecks}
 use Rattle.packets.specs.DocumentPacket.{packetDocument, documentRules}
 use Rattle.packets.proofs.Views.{read-of, read-document-of}

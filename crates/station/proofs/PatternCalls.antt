@@ -13,7 +13,7 @@ use Rattle.tables.specs.declared.Checked.the-variants as checked
 use Rattle.tables.specs.declared.Counted.{Counted}
 use Rattle.tables.specs.declared.Counted.the-variants as counted
 use Rattle.tables.proofs.Outcomes.{refuses-front, refuses-rest, passes-both, passes-front, passes-rest, counted-rest, counted-known, counted-other}
-use Rattle.packets.specs.Bytes.{Bytes}
+use Rattle.halves.specs.Bytes.{Bytes}
 use Rattle.packets.specs.PatternPacket.{patternPacket, packetPattern, patternChecks, ReadsPattern, ReadsTwo, lengthOf, PacketPut, WritesPattern}
 use Rattle.packets.specs.declared.PatternRead.{PatternRead}
 use Rattle.packets.specs.declared.TwoRead.{TwoRead}

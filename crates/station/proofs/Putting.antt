@@ -14,7 +14,7 @@ use Rattle.tables.specs.declared.Counted.{Counted}
 use Rattle.tables.specs.declared.Counted.the-variants.{Count, Refused}
 use Rattle.tables.proofs.Columns.{put-block, column-length, column-at, padded-length}
 use Rattle.tables.proofs.Outcomes.{refuses-rest, passes-both}
-use Rattle.packets.specs.Bytes.{high, low}
+use Rattle.halves.specs.Bytes.{high, low}
 use Rattle.packets.specs.DocumentPacket.{documentPacket}
 use Rattle.packets.proofs.DocumentTrip.{document-packet-length}
 use Rattle.containment.specs.Containment.{stepNo, mappingArray}

@@ -17,7 +17,7 @@ use Rattle.tables.specs.declared.Counted.{Counted}
 use Rattle.tables.specs.declared.Counted.the-variants as counted
 use Rattle.tables.proofs.Columns.{column-length, column-ext}
 use Rattle.tables.proofs.Outcomes.{refuses-front, refuses-rest, passes-both}
-use Rattle.packets.specs.Bytes.{half, halfBytes, unpacked}
+use Rattle.halves.specs.Bytes.{half, halfBytes, unpacked}
 use Rattle.packets.specs.PatternPacket.{packetPattern, patternChecks}
 use Rattle.packets.specs.DocumentPacket.{packetDocument, documentRules}
 use Rattle.placing.specs.Answer.{In, StartList}

@@ -13,7 +13,7 @@ use Rattle.tables.specs.declared.Counted.{Counted}
 use Rattle.tables.proofs.Columns.{padded-ext}
 use Rattle.tables.proofs.Outcomes.{counted-both}
 use Rattle.tables.proofs.Refusals.{counted-unique}
-use Rattle.packets.specs.Bytes.{high, low, packed, unpacked}
+use Rattle.halves.specs.Bytes.{high, low, packed, unpacked}
 use Rattle.packets.specs.PatternPacket.{patternPacket, packetPattern, patternChecks, lengthOf, PacketPut}
 use Rattle.packets.specs.DocumentPacket.{packetDocument, documentPacket}
 use Rattle.packets.proofs.DocumentTrip.{reads-document-unique}

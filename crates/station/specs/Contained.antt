@@ -16,7 +16,7 @@ use Rattle.tables.specs.Pattern.{shapeOf}
 use Rattle.tables.specs.Refusal.{Check, CountedBy}
 use Rattle.tables.specs.declared.Pattern.{Pattern}
 use Rattle.tables.specs.declared.Counted.{Counted}
-use Rattle.packets.specs.Bytes.{high, low}
+use Rattle.halves.specs.Bytes.{high, low}
 use Rattle.packets.specs.PatternPacket.{packetPattern, patternChecks}
 use Rattle.packets.specs.DocumentPacket.{documentPacket}
 use Rattle.containment.specs.Mapping.{LeastMap, Contained}

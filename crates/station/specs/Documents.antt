@@ -16,7 +16,7 @@ use Rattle.tables.specs.Document.{Document}
 use Rattle.tables.specs.Pattern.{Shape, shapeOf}
 use Rattle.tables.specs.Refusal.{Check, CountedBy}
 use Rattle.tables.specs.declared.Counted.{Counted}
-use Rattle.packets.specs.Bytes.{packed, unpacked}
+use Rattle.halves.specs.Bytes.{packed, unpacked}
 use Rattle.packets.specs.PatternPacket.{packetPattern, patternChecks}
 use Rattle.packets.specs.DocumentPacket.{nodesIn, packetDocument, documentRules}
 use Rattle.placing.specs.Answer.{Begins, Started, In, Lists, StartList}

@@ -5,7 +5,7 @@ ghost use mathlib.Core.List.{[], _∷_, _++_};
 ghost use lib.ListN.{length, getD};
 ghost use Rattle.tables.specs.Column.{column};
 ghost use Rattle.tables.specs.Document.{documentOf};
-ghost use Rattle.packets.specs.Bytes.{high, low};
+ghost use Rattle.halves.specs.Bytes.{high, low};
 ghost use Rattle.packets.specs.DocumentPacket.{documentPacket};
 ghost use Rattle.containment.specs.Containment.{stepNo};
 ghost use Rattle.station.specs.Contained.{ContainsPackets};
@@ -41,7 +41,7 @@ fn put_witness(parents: &[u16], labels: &[u16], node: u16, room: &mut [u8]) -> C
         return Counted::Refused(Refusal::Room);
     }
     packets::put_document(parents, labels, room);
-    packets::bytes::put_half(room, 4 * parents.len() + 3, node);
+    halves::put_half(room, 4 * parents.len() + 3, node);
     Counted::Count(0)
 }
 

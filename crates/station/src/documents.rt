@@ -3,11 +3,10 @@ ghost use Prim.Native.Nat.{_*_, _≤_};
 ghost use lib.ListN.{length};
 ghost use Rattle.tables.specs.Column.{blocks};
 ghost use Rattle.tables.specs.Document.{documentOf};
-ghost use Rattle.packets.specs.Bytes.{halfBytes};
+ghost use Rattle.halves.specs.Bytes.{halfBytes};
 ghost use Rattle.station.specs.Documents.{AnswersPackets, StartsPackets};
 ghost use Rattle.station.specs.inner.Reading.{AfterRules, ReadsBoth};
 ghost use Rattle.station.specs.inner.Putting.{Puts};
-use packets::bytes;
 use tables::Checked;
 use tables::Counted;
 use tables::NODES;
@@ -77,7 +76,7 @@ fn put_answers(list: &[u16], c: usize, n: usize, room: &mut [u8]) -> Counted
     if room.len() / 2 < n {
         return Counted::Refused(Refusal::Room);
     }
-    bytes::put_halves(list, c, room);
+    halves::put_halves(list, c, room);
     Counted::Count(c)
 }
 
@@ -127,7 +126,7 @@ pub(crate) fn start_packets(
     if starts.len() % 2 != 0 || n < k {
         return Counted::Refused(after_rules(parents, labels, Refusal::Start));
     }
-    bytes::get_halves(starts, 0, 2, k, &mut from);
+    halves::get_halves(starts, 0, 2, k, &mut from);
     match answers::started(x.pattern, parents, labels, &from[..k], &mut list, &mut work) {
         Counted::Count(c) => put_answers(&list, c, n, room),
         Counted::Refused(r) => Counted::Refused(r),

@@ -6,7 +6,7 @@ use denote.Ref.{now}
 use Rattle.tables.specs.Document.{nodeCount, documentOf}
 use Rattle.packets.specs.DocumentPacket.{nodeBytes, documentPacket, sizeOf}
 use Rattle.packets.proofs.DocumentTrip.{head, node-four}
-use Rattle.packets.proofs.Rows.{RowsPut, rows-none, rows-next, rows-all}
+use Rattle.halves.proofs.Rows.{RowsPut, rows-none, rows-next, rows-all}
 use Rattle.packets.proofs.put_document.Statement.{statement}
 use Rattle.packets.proofs.put_document.Tie as tie
 

@@ -5,8 +5,8 @@ use native.Mathlib.Omega.{arith}
 use lib.ListN.{length-set}
 use lib.Seq.{sets-eq}
 use denote.Ref.{now}
-use Rattle.packets.specs.Bytes.{high, low}
-use Rattle.packets.proofs.Rows.{put-two}
+use Rattle.halves.specs.Bytes.{high, low}
+use Rattle.halves.proofs.Rows.{put-two}
 use borrow.Author.Needs.{needs}
 use Rattle.packets.proofs.put_head.Statement.{statement}
 use Rattle.packets.proofs.put_head.Tie as tie

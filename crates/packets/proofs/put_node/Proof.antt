@@ -4,8 +4,8 @@ use mathlib.Core.Path.{_≡_, refl}
 use mathlib.Core.List.{[], _∷_}
 use native.Mathlib.Omega.{arith}
 use denote.Ref.{now}
-use Rattle.packets.specs.Bytes.{high, low}
-use Rattle.packets.proofs.Rows.{put-two}
+use Rattle.halves.specs.Bytes.{high, low}
+use Rattle.halves.proofs.Rows.{put-two}
 use borrow.Author.Needs.{needs}
 use Rattle.packets.proofs.put_node.Statement.{statement}
 use Rattle.packets.proofs.put_node.Tie as tie

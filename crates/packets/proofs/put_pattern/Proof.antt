@@ -7,10 +7,10 @@ use lib.ListN.{length, set, drop, length-set}
 use denote.Ref.{now}
 use Rattle.tables.specs.Pattern.{Shape, shapeOf}
 use Rattle.tables.proofs.Columns.{put-next}
-use Rattle.packets.specs.Bytes.{high, low}
+use Rattle.halves.specs.Bytes.{high, low}
 use Rattle.packets.specs.PatternPacket.{patternLength, patternPacket, stepBytes}
 use Rattle.packets.proofs.PatternTrip.{head, step-four}
-use Rattle.packets.proofs.Rows.{RowsPut, rows-none, rows-next, rows-all}
+use Rattle.halves.proofs.Rows.{RowsPut, rows-none, rows-next, rows-all}
 use Rattle.packets.proofs.put_pattern.Statement.{statement}
 use Rattle.packets.proofs.put_pattern.Tie as tie
 

@@ -11,7 +11,7 @@ use Rattle.tables.specs.Column.{column}
 use Rattle.tables.specs.declared.Counted.the-variants.{Count}
 use Rattle.tables.specs.declared.Refusal.the-variants.{Room}
 use Rattle.tables.proofs.Outcomes.{refuses-front, refuses-rest, passes-both}
-use Rattle.packets.specs.Bytes.{half}
+use Rattle.halves.specs.Bytes.{half}
 use Rattle.packets.specs.Header.{headChecks}
 use Rattle.packets.specs.DocumentPacket.{packetDocument, listsCheck}
 use Rattle.packets.proofs.Reading.{Headed}

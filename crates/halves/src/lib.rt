@@ -5,7 +5,7 @@ ghost use mathlib.Core.Path.{_≡_};
 ghost use mathlib.Core.List.{[], _∷_, _++_};
 ghost use lib.ListN.{length, take, drop};
 ghost use Rattle.tables.specs.Column.{blocks, column};
-ghost use Rattle.packets.specs.Bytes.{high, low, half, halfBytes};
+ghost use Rattle.halves.specs.Bytes.{high, low, half, halfBytes};
 
 // A byte as a 16-bit number.
 fn wide(x: u8) -> u16

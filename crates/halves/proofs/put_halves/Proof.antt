@@ -1,12 +1,12 @@
--- `packets::bytes::put_halves` meets its contract: the numbers before the one looked at are written. Assumes nothing.
+-- `halves::put_halves` meets its contract: the numbers before the one looked at are written. Assumes nothing.
 use Prim.Native.Nat.{_+_, _*_, _-_, _≤_}
 use mathlib.Core.Path.{_≡_, refl}
 use native.Mathlib.Omega.{arith}
 use denote.Ref.{now}
-use Rattle.packets.specs.Bytes.{halfBytes}
-use Rattle.packets.proofs.Rows.{RowsPut, rows-none, rows-next}
-use Rattle.packets.proofs.bytes.put_halves.Statement.{statement}
-use Rattle.packets.proofs.bytes.put_halves.Tie as tie
+use Rattle.halves.specs.Bytes.{halfBytes}
+use Rattle.halves.proofs.Rows.{RowsPut, rows-none, rows-next}
+use Rattle.halves.proofs.put_halves.Statement.{statement}
+use Rattle.halves.proofs.put_halves.Tie as tie
 
 abbrev Inv-loop : tie.InvT-loop
 Inv-loop list n out₀ k₀ out k = (k ≤ n) × RowsPut (halfBytes list) 0 2 out₀ k out

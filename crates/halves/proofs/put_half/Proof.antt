@@ -1,4 +1,4 @@
--- `packets::bytes::put_half` meets its contract: two stores in a row. Assumes nothing.
+-- `halves::put_half` meets its contract: two stores in a row. Assumes nothing.
 use Prim.Native.Nat.{suc, _+_}
 use mathlib.Core.Path.{_≡_}
 use mathlib.Core.List.{[], _∷_}
@@ -6,10 +6,10 @@ use native.Mathlib.Omega.{arith}
 use lib.ListN.{length-set}
 use lib.Seq.{sets-eq}
 use denote.Ref.{now}
-use Rattle.packets.specs.Bytes.{high, low}
+use Rattle.halves.specs.Bytes.{high, low}
 use borrow.Author.Needs.{needs}
-use Rattle.packets.proofs.bytes.put_half.Statement.{statement}
-use Rattle.packets.proofs.bytes.put_half.Tie as tie
+use Rattle.halves.proofs.put_half.Statement.{statement}
+use Rattle.halves.proofs.put_half.Tie as tie
 
 returns : tie.Need-returns
 returns c = let x = c .args in let e : x .at + 1 ≡ suc (x .at) = omega arith in rw e (sets-eq (high (x .x) ∷ low (x .x) ∷ []) (now (x .out)) (x .at) (c .pre))

@@ -1,4 +1,4 @@
--- `packets::bytes::get_halves` meets its contract: the numbers before the one looked at stand in the list, which keeps its other entries. Assumes nothing.
+-- `halves::get_halves` meets its contract: the numbers before the one looked at stand in the list, which keeps its other entries. Assumes nothing.
 use Prim.Native.Nat.{_+_, _*_, _-_, _≤_}
 use mathlib.Core.Path.{_≡_}
 use mathlib.Core.List.{_++_}
@@ -7,10 +7,10 @@ use lib.ListN.{length, drop, length-set}
 use denote.Ref.{now}
 use Rattle.tables.specs.Column.{blocks, column}
 use Rattle.tables.proofs.Columns.{column-next}
-use Rattle.packets.specs.Bytes.{half}
+use Rattle.halves.specs.Bytes.{half}
 use borrow.Author.Needs.{needs}
-use Rattle.packets.proofs.bytes.get_halves.Statement.{statement}
-use Rattle.packets.proofs.bytes.get_halves.Tie as tie
+use Rattle.halves.proofs.get_halves.Statement.{statement}
+use Rattle.halves.proofs.get_halves.Tie as tie
 
 abbrev Inv-loop : tie.InvT-loop
 Inv-loop s at gap n list₀ k₀ list k = (k ≤ n) × (length list ≡ length list₀) × (list ≡ column (λ i. half s (at + gap * i)) k ++ drop k list₀)

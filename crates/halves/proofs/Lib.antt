@@ -1,0 +1,2 @@
+-- Rows of bytes written after each other. Assumes nothing.
+pub mod Rows

@@ -1,0 +1,2 @@
+-- What a reader must believe of bytes and 16-bit numbers. Assumes nothing.
+pub mod Bytes
