@@ -522,7 +522,8 @@ static void edge_of_pairs(const struct palette *c, const struct packet *document
     int64_t answer = check_contained(&first, &second, 517);
     const uint8_t *room = image(CONTAINED_ROOM);
     if (steps == 64)
-        holds(answer == 0 && room[1] == 2 && room[2] == 0 && room[6] == 129, "the largest witness has 128 nodes and the fresh label 129", &first, &second, NULL);
+        holds(answer == 0 && room[1] == 2 && room[2] == 0 && room[6] == 129, "the largest witness has 128 nodes and the fresh label 129", &first, &second,
+              NULL);
     check_contained(&first, &second, 516);
     check_contained(&second, &first, 518);
 }
