@@ -86,9 +86,18 @@ report() {
     cat bench/explained.md
 }
 
+# Lines that are no row of a table, in 158 columns.
+wrap() {
+    awk 'length($0) <= 158 || /^\|/ { print; next }
+        { n = split($0, word, " "); line = word[1]
+          for (k = 2; k <= n; k++)
+              if (length(line) + 1 + length(word[k]) > 158) { print line; line = "  " word[k] } else line = line " " word[k]
+          print line }'
+}
+
 if [ -n "$out" ]; then
-    report >"$build/report.md"
+    report | wrap >"$build/report.md"
     cp "$build/report.md" "$out"
 else
-    report
+    report | wrap
 fi
