@@ -5,3 +5,4 @@ pub mod PatternTrip
 pub mod Reading
 pub mod RoundTrip
 pub mod DocumentTrip
+pub mod Putting

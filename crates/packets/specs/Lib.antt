@@ -2,3 +2,4 @@
 pub mod Header
 pub mod PatternPacket
 pub mod DocumentPacket
+pub mod inner

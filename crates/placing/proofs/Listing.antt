@@ -8,9 +8,11 @@ use native.Mathlib.Omega.{arith}
 use native.Mathlib.Decide.{decLt, ℕ-discrete}
 use lib.ListN.{length, getD, length-append, List·getD-append}
 use lib.Seq.{getD-append-add, ext-getD}
+use Rattle.tables.specs.Document.{Document, nodeCount}
+use Rattle.tables.specs.Pattern.{Shape}
 use Rattle.tables.proofs.Choice.{below-or-at}
 use Rattle.tables.proofs.Tests.{Tells}
-use Rattle.placing.specs.Answer.{In, Ascending, Lists}
+use Rattle.placing.specs.Answer.{Started, In, Ascending, Lists}
 
 -- in an ascending list a later entry is larger
 pub ascending-lt : (xs : List ℕ) → Ascending xs → (j k : ℕ) → j < k → k < length xs → getD xs j 0 < getD xs k 0
@@ -102,3 +104,23 @@ lists-passing (suc n) p P h = go (p n) (h n) (lists-passing n p P h)
       λ q. below-or-at (q .0) (λ l. inl (l, q .1)) (λ e. inr e),
     ))
     go false t r = lists-iff r (λ i. (λ q. (omega (arith, q .0), q .1), λ q. below-or-at (q .0) (λ l. (l, q .1)) (λ e. absurd (t .test (subst P e (q .1))))))
+
+-- an entry of a strictly ascending list is no smaller than its place
+ascending-least : (xs : List ℕ) → Ascending xs → (k : ℕ) → k < length xs → k ≤ getD xs k 0
+ascending-least xs h zero l = omega arith
+ascending-least xs h (suc k) l = omega (arith, ascending-least xs h k (omega arith), h k l)
+
+-- a strictly ascending list of numbers below n has at most n of them
+pub ascending-few : (xs : List ℕ) (n : ℕ) → Ascending xs → ((k : ℕ) → k < length xs → getD xs k 0 < n) → length xs ≤ n
+ascending-few xs n h b = go (length xs) refl
+  where
+    go : (m : ℕ) → length xs ≡ m → length xs ≤ n
+    go zero e = omega (arith, e)
+    go (suc m) e = omega (arith, e, ascending-least xs h m (omega (arith, e)), b m (omega (arith, e)))
+
+-- there are at most as many answers as nodes
+pub answers-few : (First : ℕ → Type 0) (A : Shape) (d : Document) (xs : List ℕ) → A .output < A .tree .size → Lists (Started First A d) xs → length xs ≤
+    nodeCount d
+answers-few First A d xs o l =
+    ascending-few xs (nodeCount d) (l .ascending)
+    (λ k h. let r = l .sound (getD xs k 0) (record { place = k; early = h; is = refl }) in omega (arith, r .at, r .sends .takes (A .output) o .here))

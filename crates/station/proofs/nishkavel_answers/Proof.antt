@@ -1,5 +1,5 @@
 -- `station::nishkavel_answers` meets its contract: the answer, as a number. Assumes nothing.
-use Rattle.station.proofs.DocumentCalls.{answers-small}
+use Rattle.station.proofs.Small.{answers-small}
 use borrow.Author.Needs.{needs}
 use Rattle.station.proofs.nishkavel_answers.Statement.{statement}
 use Rattle.station.proofs.nishkavel_answers.Tie as tie

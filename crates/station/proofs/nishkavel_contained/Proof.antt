@@ -1,5 +1,5 @@
 -- `station::nishkavel_contained` meets its contract: the answer, as a number. Assumes nothing.
-use Rattle.station.proofs.ContainCalls.{contains-small}
+use Rattle.station.proofs.Small.{contains-small}
 use borrow.Author.Needs.{needs}
 use Rattle.station.proofs.nishkavel_contained.Statement.{statement}
 use Rattle.station.proofs.nishkavel_contained.Tie as tie

@@ -1,5 +1,5 @@
 -- `station::nishkavel_copy_pattern` meets its contract: the answer, as a number. Assumes nothing.
-use Rattle.station.proofs.PatternCalls.{copies-small}
+use Rattle.station.proofs.Small.{copies-small}
 use borrow.Author.Needs.{needs}
 use Rattle.station.proofs.nishkavel_copy_pattern.Statement.{statement}
 use Rattle.station.proofs.nishkavel_copy_pattern.Tie as tie

@@ -1,5 +1,5 @@
 -- `station::nishkavel_join` meets its contract: the answer, as a number. Assumes nothing.
-use Rattle.station.proofs.PatternCalls.{joins-small}
+use Rattle.station.proofs.Small.{joins-small}
 use borrow.Author.Needs.{needs}
 use Rattle.station.proofs.nishkavel_join.Statement.{statement}
 use Rattle.station.proofs.nishkavel_join.Tie as tie

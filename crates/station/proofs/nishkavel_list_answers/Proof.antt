@@ -1,5 +1,5 @@
 -- `station::nishkavel_list_answers` meets its contract: the answer, as a number. Assumes nothing.
-use Rattle.station.proofs.ListCalls.{list-small}
+use Rattle.station.proofs.Small.{list-small}
 use borrow.Author.Needs.{needs}
 use Rattle.station.proofs.nishkavel_list_answers.Statement.{statement}
 use Rattle.station.proofs.nishkavel_list_answers.Tie as tie

@@ -1,5 +1,5 @@
 -- `station::nishkavel_list_started` meets its contract: the answer, as a number. Assumes nothing.
-use Rattle.station.proofs.ListCalls.{started-small}
+use Rattle.station.proofs.Small.{started-small}
 use borrow.Author.Needs.{needs}
 use Rattle.station.proofs.nishkavel_list_started.Statement.{statement}
 use Rattle.station.proofs.nishkavel_list_started.Tie as tie

@@ -1,5 +1,5 @@
 -- `station::nishkavel_rewrite` meets its contract: the answer, as a number. Assumes nothing.
-use Rattle.station.proofs.PatternCalls.{rewrites-small}
+use Rattle.station.proofs.Small.{rewrites-small}
 use borrow.Author.Needs.{needs}
 use Rattle.station.proofs.nishkavel_rewrite.Statement.{statement}
 use Rattle.station.proofs.nishkavel_rewrite.Tie as tie

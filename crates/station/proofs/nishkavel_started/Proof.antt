@@ -1,5 +1,5 @@
 -- `station::nishkavel_started` meets its contract: the answer, as a number. Assumes nothing.
-use Rattle.station.proofs.StartCalls.{starts-small}
+use Rattle.station.proofs.Small.{starts-small}
 use borrow.Author.Needs.{needs}
 use Rattle.station.proofs.nishkavel_started.Statement.{statement}
 use Rattle.station.proofs.nishkavel_started.Tie as tie
