@@ -1,25 +1,36 @@
 /* nishkavel.h: the frame catalogue for C.
  *
- * Documents and patterns are handed over as packets, slices of bytes. Every function answers with a number: 0 or more is an answer, a negative number is
- * minus a refusal of enum nishkavel_refusal. A refusal changes no byte that was lent. No function keeps state, allocates, or reads or writes outside the
- * slices that it is handed, so any of them may be called from many threads at once, on rooms that do not overlap. A pointer may be NULL where its length is
- * 0. A room must not overlap what is read in the same call. A call uses up to 96 KiB of stack.
+ * A call gets packets or lists and returns an int64_t. 0 or more is the answer. A negative result is minus a refusal (enum nishkavel_refusal), and then nothing
+ * that you lent has changed; nishkavel_refusal_text turns it into a sentence.
  *
- * A document packet: 1, the length of what follows in two bytes, then for each node its parent and its label in two bytes each. Node 0 has parent 65535; every
- * later node hangs on the node before it or on an ancestor of that one. 1 to 2,048 nodes.
- * A pattern packet: 1, the length of what follows in two bytes, the output step in one byte, then for each step its parent in one byte, its axis in one byte
- * (0 child, 1 descendant) and its label in two. Step 0 has parent 255; later steps hang like nodes. 1 to 64 steps.
- * Labels are 1 to 65535. Numbers of more than one byte have the high byte first.
+ * Buffers. You supply every buffer; no call allocates, keeps state, or touches a byte outside what it is given. A buffer that a call writes to must not overlap
+ * any other argument of that call, neither what it reads nor another buffer that it writes to. A pointer may be NULL where its length is 0. Lengths are in
+ * bytes for uint8_t, in entries for uint16_t and uint64_t.
  *
- * Example, the frames of strips in the document that the bytes `line` hold:
+ * Byte order. Numbers inside packets, start bytes and answer bytes have the high byte first. Lists of uint16_t and uint64_t are plain C arrays.
  *
- *     static const uint8_t frames[] = {1, 0, 9, 1, 255, 1, 0, 2, 0, 1, 0, 3};     // the pattern //strip//frame
- *     uint8_t room[2 * NISHKAVEL_MAX_NODES];
- *     int64_t count = nishkavel_answers(line, line_len, frames, sizeof frames, room, sizeof room);
+ * Threads. Any call may run in any number of threads at once, as long as each writes to buffers of its own. A call needs at most NISHKAVEL_STACK_BYTES of
+ * stack.
+ *
+ * A document packet, 1 to 2,048 nodes in document order:
+ *     1; two bytes: 4n; then for each node two bytes for its parent and two for its label.
+ *     Node 0 has parent 65535. Every later node hangs on the node just before it or on an ancestor of that one.
+ * A pattern packet, 1 to 64 steps:
+ *     1; two bytes: 1 + 4 * steps; one byte: the output step; then for each step one byte for its parent, one for its axis (0 child, 1 descendant) and two
+ *     for its label. Step 0 has parent 255. Later steps hang on earlier ones as nodes do.
+ * Labels are 1 to 65535; which name each stands for is up to you.
+ *
+ * The frames of strips in the document packet `line`, with strip as label 2 and frame as label 3:
+ *
+ *     static const uint8_t frames[] = {1, 0, 9, 1, 255, 1, 0, 2, 0, 1, 0, 3};    // //strip//frame
+ *     uint8_t room[NISHKAVEL_ANSWER_BYTES(NISHKAVEL_MAX_NODES)];
+ *     int64_t count = nishkavel_answers(line, line_bytes, frames, sizeof frames, room, sizeof room);
+ *     if (count < 0)
+ *         fprintf(stderr, "%s\n", nishkavel_refusal_text(count));
  *     for (int64_t k = 0; k < count; k++)
- *         printf("%d\n", room[2 * k] * 256 + room[2 * k + 1]);
+ *         printf("%d\n", NISHKAVEL_NUMBER(room + 2 * k));
  *
- * Link with libstation.a.
+ * Link with libstation.a. The samples are whole programs.
  */
 #ifndef NISHKAVEL_H
 #define NISHKAVEL_H
@@ -31,74 +42,132 @@
 extern "C" {
 #endif
 
-/* Why a call refuses. The first that applies is given, in the order that each function names. */
+#define NISHKAVEL_VERSION_MAJOR 0
+#define NISHKAVEL_VERSION_MINOR 1
+#define NISHKAVEL_VERSION_PATCH 0
+#define NISHKAVEL_VERSION "0.1.0"
+
+/* Why a call refuses. Each call names its checks in order, and the first that fails gives the number. */
 enum nishkavel_refusal {
-    NISHKAVEL_REFUSED_VERSION = 1,      /* the version byte of a packet is not 1 */
-    NISHKAVEL_REFUSED_LENGTH = 2,       /* fewer than 3 bytes, or a length that is not allowed or disagrees with the bytes present */
-    NISHKAVEL_REFUSED_PATTERN = 3,      /* a pattern breaks its rules */
-    NISHKAVEL_REFUSED_DOCUMENT = 4,     /* a document breaks its rules */
-    NISHKAVEL_REFUSED_ROOM = 5,         /* a room or a list is too short */
-    NISHKAVEL_REFUSED_START = 6,        /* a compensation starts with axis descendant, or a start list is not ascending nodes of the document */
-    NISHKAVEL_REFUSED_OTHER_LABEL = 7,  /* the compensation's first label is not that of the view's output step */
-    NISHKAVEL_REFUSED_TOO_LARGE = 8,    /* a join would pass 64 steps, or a query or a view for rewriting passes 32 */
-    NISHKAVEL_REFUSED_NO_LABEL = 9      /* two patterns leave no label for a witness */
+    NISHKAVEL_REFUSED_VERSION = 1,
+    NISHKAVEL_REFUSED_LENGTH = 2,
+    NISHKAVEL_REFUSED_PATTERN = 3,
+    NISHKAVEL_REFUSED_DOCUMENT = 4,
+    NISHKAVEL_REFUSED_ROOM = 5,
+    NISHKAVEL_REFUSED_START = 6,
+    NISHKAVEL_REFUSED_OTHER_LABEL = 7,
+    NISHKAVEL_REFUSED_TOO_LARGE = 8,
+    NISHKAVEL_REFUSED_NO_LABEL = 9
 };
 
-/* Sizes that are always enough. */
+/* A sentence for the result of a call. */
+static inline const char *nishkavel_refusal_text(int64_t result)
+{
+    switch (result < 0 && result > -100 ? (int)-result : 0) {
+    case NISHKAVEL_REFUSED_VERSION: return "a packet does not begin with version 1";
+    case NISHKAVEL_REFUSED_LENGTH: return "a packet has fewer than 3 bytes, or its length field is not allowed or does not match the bytes that are there";
+    case NISHKAVEL_REFUSED_PATTERN: return "a pattern breaks the rules for patterns";
+    case NISHKAVEL_REFUSED_DOCUMENT: return "a document breaks the rules for documents";
+    case NISHKAVEL_REFUSED_ROOM: return "a room or a list is too short";
+    case NISHKAVEL_REFUSED_START: return "what is started or joined begins with axis descendant, or the start nodes are not ascending nodes of the document";
+    case NISHKAVEL_REFUSED_OTHER_LABEL: return "the compensation does not begin with the label of the view's output step";
+    case NISHKAVEL_REFUSED_TOO_LARGE: return "a join would pass 64 steps, or a query or a view for rewriting passes 32";
+    case NISHKAVEL_REFUSED_NO_LABEL: return "the two patterns leave no label for a witness";
+    default: return result < 0 ? "not a result of this library" : "no refusal";
+    }
+}
+
+/* The largest tables, and rooms that are always long enough. */
 enum {
-    NISHKAVEL_MAX_NODES = 2048,           /* nodes of a document */
-    NISHKAVEL_MAX_STEPS = 64,             /* steps of a pattern */
-    NISHKAVEL_MAX_DOCUMENT_BYTES = 8195,  /* a document packet */
-    NISHKAVEL_MAX_PATTERN_BYTES = 260,    /* a pattern packet */
-    NISHKAVEL_MAX_CONTAINED_BYTES = 517   /* the room of nishkavel_contained, which needs all of it */
+    NISHKAVEL_MAX_NODES = 2048,          /* nodes of a document */
+    NISHKAVEL_MAX_STEPS = 64,            /* steps of a pattern */
+    NISHKAVEL_MAX_REWRITE_STEPS = 32,    /* steps of a query or a view for nishkavel_rewrite */
+    NISHKAVEL_MAX_DOCUMENT_BYTES = 8195, /* a document packet */
+    NISHKAVEL_MAX_PATTERN_BYTES = 260,   /* a pattern packet */
+    NISHKAVEL_MAX_REWRITE_BYTES = 132,   /* the packet that nishkavel_rewrite writes */
+    NISHKAVEL_CONTAINED_BYTES = 517,     /* the room of nishkavel_contained, which asks for all of it */
+    NISHKAVEL_MAPPING_BYTES = 64,        /* the mapping that nishkavel_contained writes */
+    NISHKAVEL_STACK_BYTES = 98304        /* the stack that any call needs at most */
 };
 
-/* The answers of a pattern in a document. The count c; the first 2c bytes of the room are the answers, ascending, two bytes each, and the bytes past them stay.
- * Refused by the document packet (2, 1, 2, 4), the pattern packet (2, 1, 2, 3), or a room of fewer than 2 bytes for each node of the document (5). */
-int64_t nishkavel_answers(const uint8_t *document, size_t document_len, const uint8_t *pattern, size_t pattern_len, uint8_t *room, size_t room_len);
+/* The bytes of a document packet of n nodes, of a pattern packet of n steps, and of n answers or start nodes; the entries of a working list for n nodes. */
+#define NISHKAVEL_DOCUMENT_BYTES(n) (3 + 4 * (n))
+#define NISHKAVEL_PATTERN_BYTES(n) (4 + 4 * (n))
+#define NISHKAVEL_ANSWER_BYTES(n) (2 * (n))
+#define NISHKAVEL_WORK_ENTRIES(n) (2 * (n))
 
-/* The same with step 0 of the pattern at any of the start nodes, two bytes each, as nishkavel_answers writes them; there may be none.
- * Refused by the document packet, the pattern packet, a step 0 of axis descendant or starts that are not strictly ascending nodes of the document or of an odd
- * number of bytes (6), or the room (5). */
-int64_t nishkavel_started(const uint8_t *document, size_t document_len, const uint8_t *pattern, size_t pattern_len, const uint8_t *starts, size_t starts_len,
-                          uint8_t *room, size_t room_len);
+/* The number in the two bytes at p, high byte first; and the length in bytes of the packet that begins at p. */
+#define NISHKAVEL_NUMBER(p) ((p)[0] * 256 + (p)[1])
+#define NISHKAVEL_PACKET_BYTES(p) (3 + NISHKAVEL_NUMBER((p) + 1))
 
-/* Is each answer of a, on every document, an answer of b? 1: it is, and the first 64 bytes of the room are the smallest mapping of b's steps to a's, zero
- * past b's steps. 0: it is not, and the room begins with a document packet on which the two differ, then the node, two bytes, that a answers there and b
- * does not. The bytes past that stay.
- * Refused by the packet of a, the packet of b, no label for the witness (9), or a room of fewer than 517 bytes (5), whichever way the answer would fall. */
-int64_t nishkavel_contained(const uint8_t *a, size_t a_len, const uint8_t *b, size_t b_len, uint8_t *room, size_t room_len);
+/* The answers of a pattern in a document.
+ *   Returns  the count c.
+ *   Writes   the answers to the first 2c bytes of the room, ascending, two bytes each. Later bytes stay.
+ *   Room     NISHKAVEL_ANSWER_BYTES(nodes of the document), whatever the count.
+ *   Refuses  2, 1, 2, 4 for the document packet; 2, 1, 2, 3 for the pattern packet; 5. */
+int64_t nishkavel_answers(const uint8_t *document, size_t document_bytes, const uint8_t *pattern, size_t pattern_bytes, uint8_t *room, size_t room_bytes);
 
-/* The join of a view and a compensation, whose answers are those of the compensation started at the answers of the view. The length of its packet, which the
- * room begins with; the bytes past it stay.
- * Refused by the view's packet, the compensation's packet, 6, 7, 8, or a room shorter than the packet (5). */
-int64_t nishkavel_join(const uint8_t *view, size_t view_len, const uint8_t *compensation, size_t compensation_len, uint8_t *room, size_t room_len);
+/* The same, but step 0 of the pattern stands at one of the start nodes: what a compensation finds from a view's answers.
+ *   Starts   two bytes each, strictly ascending, as nishkavel_answers writes them. There may be none.
+ *   Refuses  2, 1, 2, 4 for the document packet; 2, 1, 2, 3 for the pattern packet; 6 where step 0 has axis descendant, the start bytes are odd in number, or
+ *            the starts are not strictly ascending nodes of the document; 5. */
+int64_t nishkavel_started(const uint8_t *document, size_t document_bytes, const uint8_t *pattern, size_t pattern_bytes, const uint8_t *starts,
+                          size_t starts_bytes, uint8_t *room, size_t room_bytes);
 
-/* The compensation that, joined to the view, has the query's answers on every document. The length of its packet, which the room begins with, the bytes past it
- * as they were; or 0 where there is none, with the room as it was.
- * Refused by the query's packet, the view's packet, 8, or, where there is a compensation, a room shorter than its packet (5). */
-int64_t nishkavel_rewrite(const uint8_t *query, size_t query_len, const uint8_t *view, size_t view_len, uint8_t *room, size_t room_len);
+/* Is every answer of a, on every document, an answer of b?
+ *   Returns  1 if it is, 0 if it is not.
+ *   Writes   after 1: the smallest mapping to the first 64 bytes of the room; byte t is the step of a that step t of b goes to, and bytes past b's steps are 0.
+ *            After 0: a document packet on which the two differ, NISHKAVEL_PACKET_BYTES(room) bytes long, and right behind it, in two bytes, a node of it that
+ *            a answers and b does not. Later bytes stay.
+ *   Room     NISHKAVEL_CONTAINED_BYTES, whichever way the answer falls.
+ *   Refuses  2, 1, 2, 3 for the packet of a; 2, 1, 2, 3 for that of b; 9; 5. */
+int64_t nishkavel_contained(const uint8_t *a, size_t a_bytes, const uint8_t *b, size_t b_bytes, uint8_t *room, size_t room_bytes);
 
-/* Reads a document packet into two lists, for the calls below. The node count n; the first n entries of each list are the parents and the labels, the others
- * stay. Refused by the packet (2, 1, 2, 4), or a list of fewer than n entries (5). */
-int64_t nishkavel_read_document(const uint8_t *document, size_t document_len, uint16_t *parents, size_t parents_len, uint16_t *labels, size_t labels_len);
+/* Joins a compensation to a view: the pattern whose answers are those of the compensation, started at the view's answers.
+ *   Returns  the length of its packet.
+ *   Writes   the packet to the front of the room. Later bytes stay.
+ *   Room     the packet's length; NISHKAVEL_MAX_PATTERN_BYTES is always enough.
+ *   Refuses  2, 1, 2, 3 for the view's packet; 2, 1, 2, 3 for the compensation's; 6 where the compensation begins with axis descendant; 7; 8; 5. */
+int64_t nishkavel_join(const uint8_t *view, size_t view_bytes, const uint8_t *compensation, size_t compensation_bytes, uint8_t *room, size_t room_bytes);
 
-/* The answers of a pattern in a document that stands in two lists. The count c; the first c entries of the list are the answers, ascending. Bit s of entry
- * 2i of the working list says that step s with all below it can stand at node i, bit s of entry 2i + 1 that it stands there in a whole placement. The
- * entries of both lists past these stay. Refused by the pattern packet (2, 1, 2, 3), a document that breaks its rules (4), or a list of fewer than n entries
- * or a working list of fewer than 2n (5). */
-int64_t nishkavel_list_answers(const uint16_t *parents, size_t parents_len, const uint16_t *labels, size_t labels_len,
-                               const uint8_t *pattern, size_t pattern_len,
-                               uint16_t *list, size_t list_len, uint64_t *work, size_t work_len);
+/* Finds the compensation that, joined to the view, has the query's answers on every document.
+ *   Returns  the length of its packet, or 0 where there is none.
+ *   Writes   the packet to the front of the room. Later bytes stay, and after 0 all of it.
+ *   Room     the packet's length; NISHKAVEL_MAX_REWRITE_BYTES is always enough. With that much, a positive result says that there is a compensation and 0 that
+ *            there is none. Do not take every negative result for "none": -5 says that there is one and that your room is too short for it.
+ *   Refuses  2, 1, 2, 3 for the query's packet; 2, 1, 2, 3 for the view's; 8; 5 where there is a compensation. */
+int64_t nishkavel_rewrite(const uint8_t *query, size_t query_bytes, const uint8_t *view, size_t view_bytes, uint8_t *room, size_t room_bytes);
 
-/* The same with step 0 at any of the start nodes. Refused by the pattern packet, 4, 6, 5. */
-int64_t nishkavel_list_started(const uint16_t *parents, size_t parents_len, const uint16_t *labels, size_t labels_len,
-                               const uint8_t *pattern, size_t pattern_len,
-                               const uint16_t *starts, size_t starts_len, uint16_t *list, size_t list_len, uint64_t *work, size_t work_len);
+/* Reads a document packet into two lists, for the two calls below.
+ *   Returns  the node count n.
+ *   Writes   the parents and the labels to the first n entries of the two lists. Later entries stay.
+ *   Room     n entries in each list.
+ *   Refuses  2, 1, 2, 4 for the packet; 5. */
+int64_t nishkavel_read_document(const uint8_t *document, size_t document_bytes, uint16_t *parents, size_t parents_entries, uint16_t *labels,
+                                size_t labels_entries);
 
-/* Reads a pattern packet and writes it back, the same bytes: its length, with the packet at the front of the room and the bytes past it as they were.
- * Refused by the packet (2, 1, 2, 3), or a room shorter than it (5). */
-int64_t nishkavel_copy_pattern(const uint8_t *pattern, size_t pattern_len, uint8_t *room, size_t room_len);
+/* The answers of a pattern in a document that stands in two lists, so that a document is decoded once for many patterns.
+ *   Lists    parents_entries and labels_entries are the node count n, not the size of your arrays.
+ *   Returns  the count c.
+ *   Writes   the answers, ascending, to the first c entries of `list`, and to the first 2n entries of `work`: bit s of entry 2i says that step s and all steps
+ *            below it can be placed with step s at node i, bit s of entry 2i + 1 that the whole pattern can. Later entries stay.
+ *   Room     n entries in `list`, NISHKAVEL_WORK_ENTRIES(n) in `work`.
+ *   Refuses  2, 1, 2, 3 for the pattern packet; 4; 5. */
+int64_t nishkavel_list_answers(const uint16_t *parents, size_t parents_entries, const uint16_t *labels, size_t labels_entries, const uint8_t *pattern,
+                               size_t pattern_bytes, uint16_t *list, size_t list_entries, uint64_t *work, size_t work_entries);
+
+/* The same, but step 0 of the pattern stands at one of the nodes of `starts`, which ascend strictly.
+ *   Refuses  2, 1, 2, 3 for the pattern packet; 4; 6 where step 0 has axis descendant or the starts are not strictly ascending nodes of the document; 5. */
+int64_t nishkavel_list_started(const uint16_t *parents, size_t parents_entries, const uint16_t *labels, size_t labels_entries, const uint8_t *pattern,
+                               size_t pattern_bytes, const uint16_t *starts, size_t starts_entries, uint16_t *list, size_t list_entries, uint64_t *work,
+                               size_t work_entries);
+
+/* Reads a pattern packet and writes it back, the same bytes: a way to have a packet checked.
+ *   Returns  the length of the packet.
+ *   Writes   the packet to the front of the room. Later bytes stay.
+ *   Room     pattern_bytes.
+ *   Refuses  2, 1, 2, 3 for the packet; 5. */
+int64_t nishkavel_copy_pattern(const uint8_t *pattern, size_t pattern_bytes, uint8_t *room, size_t room_bytes);
 
 #ifdef __cplusplus
 }

@@ -21,6 +21,7 @@ xpaths=${NISHKAVEL_XPATHS:-3000}
 export NISHKAVEL_SEED=$seed
 flags='-std=c99 -O2 -Wall -Wextra -Werror -Iinclude'
 failed=0
+samples='answers contained rewriting lists wrong_inputs'
 mkdir -p "$out" || exit 1
 
 # ---- what is needed ----
@@ -87,11 +88,11 @@ compile() {
   $cross $link -o "$out/compare" "$for_archive"/{compare,seven,calls,lending,generate,evaluator}.o "$archive"
   $cross $link -o "$out/answer_packets" "$for_archive/answer_packets.o" "$archive"
   $cross $flags $link -o "$out/stack" tests/stack.c "$for_archive"/{generate,evaluator}.o "$archive"
-  $cross $flags $link -o "$out/frames_of_strips" samples/frames_of_strips.c "$archive"
+  for sample in $samples; do $cross $flags $link -o "$out/sample_$sample" "samples/$sample.c" "$archive"; done
   [ "$machine" = x86_64 ] && own=$for_archive || object gcc "$own" evaluator generate
   gcc $flags -o "$out/ask_cases" tests/ask_cases.c "$own"/{generate,evaluator}.o
   gcc $flags $(pkg-config --cflags libxml-2.0) -o "$out/xpath" tests/xpath.c "$own"/{generate,evaluator}.o $(pkg-config --libs libxml-2.0)
-  echo 'five programs and the sample, with no warning'
+  echo 'five programs and the samples, with no warning'
 }
 
 compare_sanitized() {
@@ -106,9 +107,17 @@ xpath() {
   "$out/xpath" check "$seed" "$xpaths" < "$out/answers"
 }
 
-sample() {
-  $runner "$out/frames_of_strips" > "$out/frames_of_strips.out"
-  diff "$out/frames_of_strips.out" samples/frames_of_strips.expected && tail -n 1 "$out/frames_of_strips.out"
+# Each sample prints what its file `expected` says, and docs/USING.md quotes that file.
+samples() {
+  local sample
+  for sample in $samples; do
+    $runner "$out/sample_$sample" > "$out/sample_$sample.out"
+    diff "$out/sample_$sample.out" "samples/$sample.expected"
+    while read -r line; do
+      grep -qxF "    $line" docs/USING.md || { echo "docs/USING.md does not quote the line '$line' of samples/$sample.expected"; return 1; }
+    done < "samples/$sample.expected"
+  done
+  echo "$(wc -w <<< "$samples") samples print what is expected"
 }
 
 # Each rule of the evaluator broken in turn: compare has to find it, by a mismatch and not for want of anything else.
@@ -134,7 +143,7 @@ part stack $runner "$out/stack"
 part xpath xpath
 part ask env RUNNER="$runner" bash tests/ask.sh "$ask"
 part ask_cases "$out/ask_cases" $runner "$ask"
-part sample sample
+part samples samples
 # A broken rule tells something only where the right ones agree with the library.
 [ "$compared" -ne 0 ] || part broken broken
 [ "$failed" -eq 0 ] && echo 'run: all parts passed' || echo 'run: some parts FAILED'
