@@ -11,7 +11,7 @@ static void tell(const char *what, int64_t result)
     int kept = 1;
     for (size_t k = 0; k < sizeof room; k++)
         kept &= room[k] == 0xAA;
-    printf("%s: %d, %s; the room %s\n", what, (int)result, nishkavel_refusal_text(result), kept ? "is as it was" : "was written to");
+    printf("%s: %d, and the room %s\n  %s\n", what, (int)result, kept ? "is as it was" : "was written to", nishkavel_refusal_text(result));
     memset(room, 0xAA, sizeof room);
 }
 

@@ -113,7 +113,7 @@ samples() {
   for sample in $samples; do
     $runner "$out/sample_$sample" > "$out/sample_$sample.out"
     diff "$out/sample_$sample.out" "samples/$sample.expected"
-    while read -r line; do
+    while IFS= read -r line; do
       grep -qxF "    $line" docs/USING.md || { echo "docs/USING.md does not quote the line '$line' of samples/$sample.expected"; return 1; }
     done < "samples/$sample.expected"
   done
