@@ -33,7 +33,7 @@ pub front : (A : Shape) (d : Document) (First : ℕ → Type 0) (list₀ work₀
 front A d First list₀ work₀ c list work h = subst (Lists (Started First A d)) (sym (front-is A d First list₀ work₀ c list work h)) (h .lists)
 
 -- a list of the answers starts what the answers start
-started-by : (A : Shape) (d : Document) (P : ℕ → Type 0) (xs : List ℕ) → Lists P xs → (i : ℕ) → Started (In xs) A d i ↔ Started P A d i
+pub started-by : (A : Shape) (d : Document) (P : ℕ → Type 0) (xs : List ℕ) → Lists P xs → (i : ℕ) → Started (In xs) A d i ↔ Started P A d i
 started-by A d P xs l i = (
   λ r. record { by = r .by; sends = r .sends; first = l .sound (r .by 0) (r .first); at = r .at },
   λ r. record { by = r .by; sends = r .sends; first = l .complete (r .by 0) (r .first); at = r .at },

@@ -2,3 +2,5 @@
 pub mod Joining
 pub mod Rewriting
 pub mod Containment
+pub mod Lines
+pub mod Asking
