@@ -4,3 +4,5 @@ pub mod Rewriting
 pub mod Containment
 pub mod Lines
 pub mod Asking
+pub mod Refused
+pub mod Starting
