@@ -1,14 +1,17 @@
 -- Rows hang right together in trees that agree, and shapes that agree obey the rules together. Assumes nothing.
 use Prim.Native.Nat.{ℕ, zero, suc, _≤_, _<_}
-use mathlib.Core.Path.{_≡_, refl, sym, _∙_, subst}
+use mathlib.Core.Path.{_≡_, refl, sym, ap, _∙_, subst}
 use mathlib.Core.Logic.{_⊎_, inl, inr, _↔_}
+use mathlib.Core.List.{List}
 use native.Mathlib.Omega.{arith}
 use lib.ListN.{length, getD, take}
 use lib.Seq.{length-take-le, getD-take}
 use Rattle.tables.specs.Tree.{Tree, Child, Below, child, under, From, Hangs, IsLabel}
+use Rattle.tables.specs.Column.{bareNumbers}
 use Rattle.tables.specs.Pattern.{Shape, shapeOf, StepRule, ValidShape, ValidPattern}
 use Rattle.tables.specs.inner.Steps.{stepsOf}
 use Rattle.tables.specs.declared.Pattern.{Pattern}
+use Rattle.tables.proofs.Columns.{bare-at}
 use Rattle.tables.proofs.Rules.{Agree, agree-sym}
 
 module _ {S T : Tree} (n : S .size ≡ T .size) (p : (i : ℕ) → i < S .size → S .parent i ≡ T .parent i) where
@@ -45,29 +48,29 @@ valid-agree {A} {B} e v = record {
       label = subst IsLabel (e .label s l) (v .steps s l .label);
     }
 
--- the first entries of a table's lists say what the table says
-front-agree : (p : Pattern) (n : ℕ) → n ≡ p .count → n ≤ length (p .parent) → Agree (record {
-  tree = stepsOf (take n (p .parent)) (take n (p .axis)) (take n (p .label)) .tree;
+-- the first entries of a table's lists, its parents as bare numbers, say what the table says
+front-agree : (p : Pattern) (ps : List ℕ) (n : ℕ) → ps ≡ bareNumbers (p .parent) → n ≡ p .count → n ≤ length ps → Agree (record {
+  tree = stepsOf (take n ps) (take n (p .axis)) (take n (p .label)) .tree;
   label = λ s. getD (take n (p .label)) s 0;
   axis = λ s. getD (take n (p .axis)) s 0;
   output = p .output .0;
 }) (shapeOf p)
-front-agree p n e l =
-    let m : length (take n (p .parent)) ≡ n = length-take-le n (p .parent) l in
+front-agree p ps n b e l =
+    let m : length (take n ps) ≡ n = length-take-le n ps l in
     record {
       size = m ∙ e;
       output = refl;
-      parent = λ s l. getD-take n (p .parent) s 0 (omega arith);
+      parent = λ s l. getD-take n ps s 0 (omega arith) ∙ ap (λ xs. getD xs s 0) b ∙ bare-at (p .parent) s;
       axis = λ s l. getD-take n (p .axis) s 0 (omega arith);
       label = λ s l. getD-take n (p .label) s 0 (omega arith);
     }
 
 -- a pattern with its steps and its output step in range obeys the rules exactly if each of the steps in its lists does
-pub steps-valid : (p : Pattern) (n : ℕ) → n ≡ p .count → n ≤ length (p .parent) → 0 < n → n ≤ 64 → p .output .0 < n
-    → ((s : ℕ) → s < length (take n (p .parent)) → StepRule (stepsOf (take n (p .parent)) (take n (p .axis)) (take n (p .label))) s) ↔ ValidPattern p
-steps-valid p n e l some few out =
-    let a = front-agree p n e l in
-    let m : length (take n (p .parent)) ≡ n = length-take-le n (p .parent) l in (
+pub steps-valid : (p : Pattern) (ps : List ℕ) (n : ℕ) → ps ≡ bareNumbers (p .parent) → n ≡ p .count → n ≤ length ps → 0 < n → n ≤ 64 → p .output .0 < n
+    → ((s : ℕ) → s < length (take n ps) → StepRule (stepsOf (take n ps) (take n (p .axis)) (take n (p .label))) s) ↔ ValidPattern p
+steps-valid p ps n b e l some few out =
+    let a = front-agree p ps n b e l in
+    let m : length (take n ps) ≡ n = length-take-le n ps l in (
       λ h. valid-agree a (record {
         some = omega (arith, m);
         few = omega (arith, m);

@@ -1,13 +1,14 @@
--- Laws of blocks, of columns and of arrays that are zero past their first entries. Assumes nothing.
+-- Laws of blocks, of columns, of arrays that are zero past their first entries, and of steps in arrays. Assumes nothing.
 use Prim.Native.Nat.{ℕ, zero, suc, _+_, _*_, _-_, _≤_, _<_}
 use mathlib.Core.Path.{_≡_, refl, sym, ap, ap₂, _∙_, subst}
-use mathlib.Core.List.{List, [], _∷_, _++_, append-assoc}
+use mathlib.Core.List.{List, [], _∷_, _++_, map, append-assoc}
 use native.Mathlib.Omega.{arith}
 use native.Mathlib.Nat.{zero-mul, suc-mul}
 use native.Mathlib.Numerals.{add-one}
-use lib.ListN.{length, getD, set, take, drop, replicate, length-append, length-drop, length-replicate, List·getD-append}
+use lib.ListN.{length, getD, set, take, drop, replicate, length-append, length-drop, length-replicate, length-map, List·getD-append, List·getD-map}
 use lib.Seq.{getD-append-add, drop-cons, drop-drop, drop-append-add, take-at, set-at, ext-getD}
-use Rattle.tables.specs.Column.{blocks, column, padded}
+use Rattle.tables.specs.Column.{blocks, column, padded, stepNo, stepArray, bareNumbers}
+use Rattle.tables.specs.declared.StepNo.{StepNo}
 use Rattle.tables.proofs.Choice.{below-or-at}
 
 -- block k ends within the blocks
@@ -80,3 +81,40 @@ padded-length f n l =
 
 pub padded-ext : (f g : ℕ → ℕ) (n : ℕ) → ((k : ℕ) → k < n → f k ≡ g k) → padded f n ≡ padded g n
 padded-ext f g n h = ap (λ l. l ++ drop n (replicate 64 0)) (column-ext f g n h)
+
+-- a store in a list of steps
+map-set : (xs : List ℕ) (k v : ℕ) → set (map stepNo xs) k (stepNo v) ≡ map stepNo (set xs k v)
+map-set [] k v = refl
+map-set (x ∷ xs) zero v = refl
+map-set (x ∷ xs) (suc k) v = ap (λ ys. stepNo x ∷ ys) (map-set xs k v)
+
+pub steps-next : (f : ℕ → ℕ) (xs : List StepNo) (k v : ℕ) → k < 64 → v ≡ f k → xs ≡ stepArray f k → set xs k (stepNo v) ≡ stepArray f (k + 1)
+unfolding stepArray
+steps-next f xs k v l e g = rw g (map-set (padded f k) k v ∙ ap (map stepNo) (padded-next f (padded f k) k v l e refl))
+
+pub steps-at : (f : ℕ → ℕ) (n k : ℕ) → k < n → getD (stepArray f n) k (stepNo 0) ≡ stepNo (f k)
+unfolding stepArray
+steps-at f n k l = List·getD-map stepNo (padded f n) k 0 ∙ ap stepNo (padded-at f n k l)
+
+pub steps-ext : (f g : ℕ → ℕ) (n : ℕ) → ((k : ℕ) → k < n → f k ≡ g k) → stepArray f n ≡ stepArray g n
+unfolding stepArray
+steps-ext f g n h = ap (map stepNo) (padded-ext f g n h)
+
+-- the number of a step
+pub bare-at : (steps : List StepNo) (k : ℕ) → getD (bareNumbers steps) k 0 ≡ getD steps k (stepNo 0) .0
+bare-at steps k = List·getD-map (λ s. s .0) steps k (stepNo 0)
+
+-- the numbers of all steps, taken one by one
+pub bare-all : (steps : List StepNo) → length steps ≡ 64 → padded (λ k. getD steps k (stepNo 0) .0) 64 ≡ bareNumbers steps
+bare-all steps e =
+    let f : ℕ → ℕ = λ k. getD steps k (stepNo 0) .0 in
+    ext-getD 0 (padded f 64) (bareNumbers steps) (padded-length f 64 (omega arith) ∙ sym e ∙ sym (length-map steps (λ s. s .0)))
+    (λ k l. padded-at f 64 k (omega (arith, padded-length f 64 (omega arith))) ∙ sym (bare-at steps k))
+
+-- steps with the same numbers are the same
+pub bare-same : (xs ys : List StepNo) → bareNumbers xs ≡ bareNumbers ys → xs ≡ ys
+bare-same xs ys e = sym (kind xs) ∙ ap (map stepNo) e ∙ kind ys
+  where
+    kind : (zs : List StepNo) → map stepNo (bareNumbers zs) ≡ zs
+    kind [] = refl
+    kind (z ∷ zs) = ap (λ l. z ∷ l) (kind zs)

@@ -3,10 +3,10 @@ use Prim.Native.Nat.{ℕ, _+_, _≤_, _<_}
 use mathlib.Core.Path.{_≡_, refl}
 use native.Mathlib.Omega.{arith}
 use lib.ListN.{set, replicate}
-use Rattle.tables.specs.Column.{blocks, padded}
+use Rattle.tables.specs.Column.{blocks, padded, stepNo, stepArray}
 use Rattle.tables.specs.Pattern.{Shape, tableOf, patternOf}
 use Rattle.tables.specs.declared.Pattern.{Pattern}
-use Rattle.tables.proofs.Columns.{padded-next}
+use Rattle.tables.proofs.Columns.{padded-next, steps-next}
 use Rattle.tables.proofs.Rules.{pattern-ext}
 
 -- the first k steps of A are written
@@ -15,25 +15,32 @@ pub record Filled (A : Shape) (k : ℕ) (p : Pattern) : Type 0 where
   pub few : A .tree .size ≤ 64
   pub count : p .count ≡ A .tree .size
   pub output : p .output .0 ≡ A .output
-  pub parents : p .parent ≡ padded (A .tree .parent) k
+  pub parents : p .parent ≡ stepArray (A .tree .parent) k
   pub axes : p .axis ≡ padded (A .axis) k
   pub labels : p .label ≡ padded (A .label) k
 
 -- none yet
 pub filled-none : (A : Shape) (n o : ℕ) → n ≡ A .tree .size → o ≡ A .output → A .tree .size ≤ 64 → Filled A 0
-    (tableOf n o (replicate 64 0) (replicate 64 0) (replicate 64 0))
-unfolding blocks tableOf
+    (tableOf n o (replicate 64 (stepNo 0)) (replicate 64 0) (replicate 64 0))
+unfolding blocks tableOf stepArray
 filled-none A n o e f l = record { low = omega arith; few = l; count = e; output = f; parents = refl; axes = refl; labels = refl }
 
 -- one more
 pub filled-next : {A : Shape} {k : ℕ} {p : Pattern} (x y z : ℕ) → Filled A k p → k < A .tree .size → x ≡ A .tree .parent k → y ≡ A .axis k → z ≡ A .label k
-    → Filled A (k + 1) (record { parent = set (p .parent) k x; axis = set (p .axis) k y; label = set (p .label) k z; count = p .count; output = p .output })
+    → Filled A (k + 1) (record {
+      parent = set (p .parent) k (stepNo x);
+      axis = set (p .axis) k y;
+      label = set (p .label) k z;
+      count = p .count;
+      output = p
+          .output;
+    })
 filled-next {A} {k} {p} x y z f l ex ey ez = record {
   low = omega arith;
   few = f .few;
   count = f .count;
   output = f .output;
-  parents = padded-next (A .tree .parent) (p .parent) k x (omega (arith, f .few)) ex (f .parents);
+  parents = steps-next (A .tree .parent) (p .parent) k x (omega (arith, f .few)) ex (f .parents);
   axes = padded-next (A .axis) (p .axis) k y (omega (arith, f .few)) ey (f .axes);
   labels = padded-next (A .label) (p .label) k z (omega (arith, f .few)) ez (f .labels);
 }

@@ -1,17 +1,18 @@
 -- What the rules give: order in a valid table, a pattern's table and its shape say the same, and tests for the rules. Assumes nothing.
 use Prim.Native.Nat.{ℕ, suc, _<_}
-use mathlib.Core.Path.{_≡_, refl, sym, _∙_}
+use mathlib.Core.Path.{_≡_, refl, sym, ap, _∙_}
 use mathlib.Core.Bool.{Bool, _&&_, _||_}
 use native.Mathlib.Omega.{arith}
 use lib.Dec.{T, ltb, eqb, eqb→eq}
 use lib.ListN.{length, getD}
 use Rattle.tables.specs.Tree.{IsLabel}
-use Rattle.tables.specs.Column.{padded}
+use Rattle.tables.specs.Column.{padded, stepArray, bareNumbers}
 use Rattle.tables.specs.Document.{Document, nodeCount, nodesOf, NodeRule, ValidDocument, documentOf}
 use Rattle.tables.specs.Pattern.{Shape, shapeOf, tableOf, patternOf, StepRule, ValidShape, Clean}
 use Rattle.tables.specs.declared.Pattern.{Pattern}
+use Rattle.tables.specs.declared.StepNo.{StepNo}
 use Rattle.tables.proofs.Trees.{Ordered}
-use Rattle.tables.proofs.Columns.{padded-at, padded-ext}
+use Rattle.tables.proofs.Columns.{padded-at, padded-ext, steps-at, steps-ext, bare-same}
 use Rattle.tables.proofs.Tests.{Tells, tells-lt, tells-eq, tells-and, tells-or, tells-iff, tells-self, every, tells-every, and-both, sameList, same-list}
 use Rattle.tables.proofs.TreeTests.{hangsRight, hangs-sound, hangs-complete}
 
@@ -35,7 +36,7 @@ unfolding patternOf tableOf
 pattern-of-shape A = record {
   size = refl;
   output = refl;
-  parent = λ s l. padded-at (A .tree .parent) (A .tree .size) s l;
+  parent = λ s l. ap (λ (x : StepNo). x .0) (steps-at (A .tree .parent) (A .tree .size) s l);
   axis = λ s l. padded-at (A .axis) (A .tree .size) s l;
   label = λ s l. padded-at (A .label) (A .tree .size) s l;
 }
@@ -62,7 +63,7 @@ agree-trans {A} {B} {C} e f = record {
 pub pattern-of-agree : {A B : Shape} → Agree A B → patternOf A ≡ patternOf B
 unfolding patternOf
 pattern-of-agree {A} {B} e =
-    let p : padded (A .tree .parent) (A .tree .size) ≡ padded (B .tree .parent) (A .tree .size) = padded-ext (A .tree .parent) (B .tree .parent)
+    let p : stepArray (A .tree .parent) (A .tree .size) ≡ stepArray (B .tree .parent) (A .tree .size) = steps-ext (A .tree .parent) (B .tree .parent)
     (A .tree .size) (e .parent) in
     let x : padded (A .axis) (A .tree .size) ≡ padded (B .axis) (A .tree .size) = padded-ext (A .axis) (B .axis) (A .tree .size) (e .axis) in
     let l : padded (A .label) (A .tree .size) ≡ padded (B .label) (A .tree .size) = padded-ext (A .label) (B .label) (A .tree .size) (e .label) in
@@ -145,17 +146,18 @@ pattern-ext p q n o ps xs ls = λ i. tableOf (n i) (o i) (ps i) (xs i) (ls i)
 unfoldable pub samePattern : Pattern → Pattern → Bool
 samePattern p q =
     eqb (p .count) (q .count) && (eqb (p .output .0) (q .output .0) &&
-    (sameList (p .parent) (q .parent) && (sameList (p .axis) (q .axis) && sameList (p .label) (q .label))))
+    (sameList (bareNumbers (p .parent)) (bareNumbers (q .parent)) && (sameList (p .axis) (q .axis) && sameList (p .label) (q .label))))
 
 pub same-pattern : (p q : Pattern) → T (samePattern p q) → p ≡ q
 unfolding samePattern
 same-pattern p q t =
     let a = and-both (eqb (p .count) (q .count)) _ t in
     let b = and-both (eqb (p .output .0) (q .output .0)) _ (a .1) in
-    let c = and-both (sameList (p .parent) (q .parent)) _ (b .1) in
+    let c = and-both (sameList (bareNumbers (p .parent)) (bareNumbers (q .parent))) _ (b .1) in
     let d = and-both (sameList (p .axis) (q .axis)) _ (c .1) in
     pattern-ext p q (eqb→eq (p .count) (q .count) (a .0)) (eqb→eq (p .output .0) (q .output .0) (b .0))
-    (same-list (p .parent) (q .parent) (c .0)) (same-list (p .axis) (q .axis) (d .0)) (same-list (p .label) (q .label) (d .1))
+    (bare-same (p .parent) (q .parent) (same-list (bareNumbers (p .parent)) (bareNumbers (q .parent)) (c .0))) (same-list (p .axis) (q .axis) (d .0))
+    (same-list (p .label) (q .label) (d .1))
 
 -- documents with the same lists are one
 unfoldable pub sameDocument : Document → Document → Bool

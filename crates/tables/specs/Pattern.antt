@@ -16,8 +16,9 @@ use mathlib.Core.Logic.{_⊎_}
 use mathlib.Core.List.{List}
 use lib.ListN.{getD, replicate}
 use Rattle.tables.specs.Tree.{Tree, Hangs, IsLabel, Rows}
-use Rattle.tables.specs.Column.{padded}
+use Rattle.tables.specs.Column.{padded, stepNo, stepArray}
 use Rattle.tables.specs.declared.Pattern.{Pattern}
+use Rattle.tables.specs.declared.StepNo.{StepNo}
 
 -- a pattern's steps: a tree, the label and the axis of each (0 child, 1 descendant), and the output step
 pub record Shape : Type 0 where
@@ -33,25 +34,25 @@ rowsOf A = record { tree = A .tree; label = A .label; axis = A .axis }
 -- the shape of a table
 abbrev pub shapeOf : Pattern → Shape
 shapeOf p = record {
-  tree = record { size = p .count; parent = λ s. getD (p .parent) s 0 };
+  tree = record { size = p .count; parent = λ s. getD (p .parent) s (stepNo 0) .0 };
   label = λ s. getD (p .label) s 0;
   axis = λ s. getD (p .axis) s 0;
   output = p .output .0;
 }
 
 -- the table with these parts
-unfoldable pub tableOf : ℕ → ℕ → List ℕ → List ℕ → List ℕ → Pattern
-tableOf n o ps xs ls = record { parent = ps; axis = xs; label = ls; count = n; output = record { 0 = o } }
+unfoldable pub tableOf : ℕ → ℕ → List StepNo → List ℕ → List ℕ → Pattern
+tableOf n o ps xs ls = record { parent = ps; axis = xs; label = ls; count = n; output = stepNo o }
 
 -- the table of a shape
 unfoldable pub patternOf : Shape → Pattern
 patternOf A =
     tableOf (A .tree .size) (A .output)
-    (padded (A .tree .parent) (A .tree .size)) (padded (A .axis) (A .tree .size)) (padded (A .label) (A .tree .size))
+    (stepArray (A .tree .parent) (A .tree .size)) (padded (A .axis) (A .tree .size)) (padded (A .label) (A .tree .size))
 
 -- the table beside a refusal or "none": nothing but zeros
 unfoldable pub zeroPattern : Pattern
-zeroPattern = tableOf 0 0 (replicate 64 0) (replicate 64 0) (replicate 64 0)
+zeroPattern = tableOf 0 0 (replicate 64 (stepNo 0)) (replicate 64 0) (replicate 64 0)
 
 -- the rule for step s, where the steps before it obey theirs
 pub record StepRule (A : Shape) (s : ℕ) : Type 0 where

@@ -1,13 +1,14 @@
 // The kinds of number, the pattern table and the refusals that every call speaks of (docs/RULES.md, "Tables" and "Refusals").
 // A document is lent as two lists of 16-bit numbers and has no type of its own.
 
-ghost use Prim.Native.Nat.{ℕ, _<_};
+ghost use Prim.Native.Nat.{ℕ, _≤_, _<_};
 ghost use mathlib.Core.Path.{_≡_};
 ghost use mathlib.Core.Logic.{_↔_};
 ghost use lib.ListN.{length, getD};
 ghost use lib.Dec.{T};
 ghost use Rattle.tables.specs.Document.{documentOf, NodeRule};
 ghost use Rattle.tables.specs.Tree.{Hangs};
+ghost use Rattle.tables.specs.Column.{bareNumbers};
 ghost use Rattle.tables.specs.Pattern.{zeroPattern, StepRule};
 ghost use Rattle.tables.specs.Refusal.{number};
 ghost use Rattle.tables.specs.Checks.{ChecksDocument, ChecksPattern};
@@ -26,7 +27,7 @@ pub struct NodeNo(pub u16);
 
 // A pattern: the first `count` entries of the three arrays are its steps, the others are not read.
 pub struct Pattern {
-    pub parent: [u8; STEPS],
+    pub parent: [StepNo; STEPS],
     pub axis: [u8; STEPS],
     pub label: [u16; STEPS],
     pub count: usize,
@@ -80,7 +81,7 @@ pub fn no_pattern() -> Pattern
     ensures { λ r. ⌜ r ≡ zeroPattern ⌝ }
 {
     Pattern {
-        parent: [0u8; STEPS],
+        parent: [StepNo(0); STEPS],
         axis: [0u8; STEPS],
         label: [0u16; STEPS],
         count: 0,
@@ -90,29 +91,32 @@ pub fn no_pattern() -> Pattern
 
 // Does node i hang right, given that every node before it does? Its parent is the node before it or an ancestor of that, so the climb from node i - 1
 // ends at the parent, or else passes it.
-fn node_hangs(parents: &[u16], i: usize) -> bool
-    requires { ⌜ i < length (now parents) ⌝ }
-    requires { ⌜ ((k : ℕ) → k < i → Hangs (record { size = length (now parents); parent = λ j. getD (now parents) j 0 }) 65535 k) ⌝ }
-    ensures { λ r. ⌜ T r ↔ Hangs (record { size = length (now (parents .entry)); parent = λ j. getD (now (parents .entry)) j 0 }) 65535 i ⌝ }
+fn node_hangs(parents: &[u16], i: NodeNo) -> bool
+    requires { ⌜ i .0 < length (now parents) ⌝ }
+    requires { ⌜ ((k : ℕ) → k < i .0 → Hangs (record { size = length (now parents); parent = λ j. getD (now parents) j 0 }) 65535 k) ⌝ }
+    ensures { λ r. ⌜ T r ↔ Hangs (record { size = length (now (parents .entry)); parent = λ j. getD (now (parents .entry)) j 0 }) 65535 (i .0) ⌝ }
 {
-    let p = parents[i] as usize;
-    if i == 0 {
-        return p == 65535;
+    let row = i.0 as usize;
+    let p = NodeNo(parents[row]);
+    if i.0 == 0 {
+        return p.0 == 65535;
     }
-    let mut a = i - 1;
-    while p < a {
-        a = parents[a] as usize;
+    let mut a = NodeNo(i.0 - 1);
+    while p.0 < a.0 {
+        let over = a.0 as usize;
+        a = NodeNo(parents[over]);
     }
-    a == p
+    a.0 == p.0
 }
 
 // Does node i obey its rule, given that every node before it does?
-fn node_right(parents: &[u16], labels: &[u16], i: usize) -> bool
-    requires { ⌜ (i < length (now parents)) × (length (now labels) ≡ length (now parents)) ⌝ }
-    requires { ⌜ ((k : ℕ) → k < i → NodeRule (documentOf (now parents) (now labels)) k) ⌝ }
-    ensures { λ r. ⌜ T r ↔ NodeRule (documentOf (now (parents .entry)) (now (labels .entry))) i ⌝ }
+fn node_right(parents: &[u16], labels: &[u16], i: NodeNo) -> bool
+    requires { ⌜ (i .0 < length (now parents)) × (length (now labels) ≡ length (now parents)) ⌝ }
+    requires { ⌜ ((k : ℕ) → k < i .0 → NodeRule (documentOf (now parents) (now labels)) k) ⌝ }
+    ensures { λ r. ⌜ T r ↔ NodeRule (documentOf (now (parents .entry)) (now (labels .entry))) (i .0) ⌝ }
 {
-    if labels[i] == 0 {
+    let row = i.0 as usize;
+    if labels[row] == 0 {
         return false;
     }
     node_hangs(parents, i)
@@ -128,37 +132,51 @@ pub fn check_document(parents: &[u16], labels: &[u16]) -> Checked
         return Checked::Refused(Refusal::BadDocument);
     }
     for i in 0..n {
-        if !node_right(parents, labels, i) {
+        if !node_right(parents, labels, NodeNo(i as u16)) {
             return Checked::Refused(Refusal::BadDocument);
         }
     }
     Checked::Right
 }
 
-// Does step s hang right, given that every step before it does? `parents` has an entry for each step; the climb is that of node_hangs.
-fn step_hangs(parents: &[u8], s: usize) -> bool
-    requires { ⌜ s < length (now parents) ⌝ }
-    requires { ⌜ ((k : ℕ) → k < s → Hangs (record { size = length (now parents); parent = λ j. getD (now parents) j 0 }) 255 k) ⌝ }
-    ensures { λ r. ⌜ T r ↔ Hangs (record { size = length (now (parents .entry)); parent = λ j. getD (now (parents .entry)) j 0 }) 255 s ⌝ }
+// The numbers of these steps, without their kind: a list of bare numbers can be lent.
+pub fn bare_numbers(steps: [StepNo; STEPS]) -> [u8; STEPS]
+    ensures { λ r. ⌜ r ≡ bareNumbers steps ⌝ }
 {
-    let p = parents[s] as usize;
-    if s == 0 {
-        return p == 255;
+    let mut numbers = [0u8; STEPS];
+    for s in 0..STEPS {
+        numbers[s] = steps[s].0;
     }
-    let mut a = s - 1;
-    while p < a {
-        a = parents[a] as usize;
+    numbers
+}
+
+// Does step s hang right, given that every step before it does? `parents` has an entry for each step; the climb is that of node_hangs.
+fn step_hangs(parents: &[u8], s: StepNo) -> bool
+    requires { ⌜ s .0 < length (now parents) ⌝ }
+    requires { ⌜ ((k : ℕ) → k < s .0 → Hangs (record { size = length (now parents); parent = λ j. getD (now parents) j 0 }) 255 k) ⌝ }
+    ensures { λ r. ⌜ T r ↔ Hangs (record { size = length (now (parents .entry)); parent = λ j. getD (now (parents .entry)) j 0 }) 255 (s .0) ⌝ }
+{
+    let row = s.0 as usize;
+    let p = StepNo(parents[row]);
+    if s.0 == 0 {
+        return p.0 == 255;
     }
-    a == p
+    let mut a = StepNo(s.0 - 1);
+    while p.0 < a.0 {
+        let over = a.0 as usize;
+        a = StepNo(parents[over]);
+    }
+    a.0 == p.0
 }
 
 // Does step s obey its rule, given that every step before it does? The three lists have an entry for each step: a pattern by value would be copied.
-fn step_right(parents: &[u8], axes: &[u8], labels: &[u16], s: usize) -> bool
-    requires { ⌜ (s < length (now parents)) × (length (now axes) ≡ length (now parents)) × (length (now labels) ≡ length (now parents)) ⌝ }
-    requires { ⌜ ((k : ℕ) → k < s → StepRule (stepsOf (now parents) (now axes) (now labels)) k) ⌝ }
-    ensures { λ r. ⌜ T r ↔ StepRule (stepsOf (now (parents .entry)) (now (axes .entry)) (now (labels .entry))) s ⌝ }
+fn step_right(parents: &[u8], axes: &[u8], labels: &[u16], s: StepNo) -> bool
+    requires { ⌜ (s .0 < length (now parents)) × (length (now axes) ≡ length (now parents)) × (length (now labels) ≡ length (now parents)) ⌝ }
+    requires { ⌜ ((k : ℕ) → k < s .0 → StepRule (stepsOf (now parents) (now axes) (now labels)) k) ⌝ }
+    ensures { λ r. ⌜ T r ↔ StepRule (stepsOf (now (parents .entry)) (now (axes .entry)) (now (labels .entry))) (s .0) ⌝ }
 {
-    if 1 < axes[s] || labels[s] == 0 {
+    let row = s.0 as usize;
+    if 1 < axes[row] || labels[row] == 0 {
         return false;
     }
     step_hangs(parents, s)
@@ -166,13 +184,13 @@ fn step_right(parents: &[u8], axes: &[u8], labels: &[u16], s: usize) -> bool
 
 // Does every step obey its rule?
 fn steps_right(parents: &[u8], axes: &[u8], labels: &[u16]) -> bool
-    requires { ⌜ (length (now axes) ≡ length (now parents)) × (length (now labels) ≡ length (now parents)) ⌝ }
+    requires { ⌜ (length (now parents) ≤ 64) × (length (now axes) ≡ length (now parents)) × (length (now labels) ≡ length (now parents)) ⌝ }
     ensures { λ r. ⌜ T r ↔ ((s : ℕ) → s < length (now (parents .entry))
         → StepRule (stepsOf (now (parents .entry)) (now (axes .entry)) (now (labels .entry))) s) ⌝ }
 {
     let mut s = 0;
     while s < parents.len() {
-        if !step_right(parents, axes, labels, s) {
+        if !step_right(parents, axes, labels, StepNo(s as u8)) {
             return false;
         }
         s += 1;
@@ -189,7 +207,8 @@ pub fn check_pattern(p: Pattern) -> Checked
     if n == 0 || STEPS < n || n <= output {
         return Checked::Refused(Refusal::BadPattern);
     }
-    let parents = p.parent;
+    let steps = p.parent;
+    let parents = bare_numbers(steps);
     let axes = p.axis;
     let labels = p.label;
     if steps_right(&parents[..n], &axes[..n], &labels[..n]) {

@@ -44,6 +44,11 @@ returns-3 c =
 
 pub check-document-spec : {M : Type 1} → statement M
 check-document-spec = tie.close (tie.spec Inv-loop μ-loop returns loop-holds
+    (λ c. omega (
+      arith,
+      ltb-false 2048 (length (now (c .before .before .before .before .before .before .before .args .parents)))
+          (c .before .before .before .if2 .left),
+    ))
     (λ c κs. ((omega arith, c .before .loop .inv .1), c .before .loop .inv .2)) returns-2 (λ c. search needs) (λ c. search needs)
     (λ c. (
       omega arith,

@@ -16,23 +16,23 @@ use borrow.Author.Needs.{needs}
 use Rattle.tables.proofs.check_pattern.Statement.{statement}
 use Rattle.tables.proofs.check_pattern.Tie as tie
 
--- the pattern, seen from past the three tests, and its counts
-abbrev pattern : tie.Else3 → Pattern
-pattern x = x .before .before .before .before .args .p
+-- the pattern, seen from past the three tests and its parents' numbers, and its counts
+abbrev pattern : tie.After-bare-numbers → Pattern
+pattern x = x .before .before .before .before .before .before .args .p
 
-few : (x : tie.Else3) → pattern x .count ≤ 64
-few x = ltb-false 64 (pattern x .count) (x .before .if2 .left)
+few : (x : tie.After-bare-numbers) → pattern x .count ≤ 64
+few x = ltb-false 64 (pattern x .count) (x .before .before .before .if2 .left)
 
-long : (x : tie.Else3) → (length (pattern x .parent) ≡ 64) × (length (pattern x .axis) ≡ 64) × (length (pattern x .label) ≡ 64)
+long : (x : tie.After-bare-numbers) → (length (x .bare-numbers .result) ≡ 64) × (length (pattern x .axis) ≡ 64) × (length (pattern x .label) ≡ 64)
 long x = (search needs, search needs, search needs)
 
 -- there it obeys the rules exactly if its steps do
-steps : (x : tie.Else3) → ((s : ℕ) → s < length (take (pattern x .count) (pattern x .parent))
-    → StepRule (stepsOf (take (pattern x .count) (pattern x .parent)) (take (pattern x .count) (pattern x .axis))
+steps : (x : tie.After-bare-numbers) → ((s : ℕ) → s < length (take (pattern x .count) (x .bare-numbers .result))
+    → StepRule (stepsOf (take (pattern x .count) (x .bare-numbers .result)) (take (pattern x .count) (pattern x .axis))
     (take (pattern x .count) (pattern x .label))) s)
     ↔ ValidPattern (pattern x)
-steps x = steps-valid (pattern x) (pattern x .count) refl (omega (arith, few x, long x .0)) (omega arith) (few x)
-    (leb-false (pattern x .count) (pattern x .output .0) (x .if3 .left))
+steps x = steps-valid (pattern x) (x .bare-numbers .result) (pattern x .count) (x .bare-numbers .ensures) refl (omega (arith, few x, long x .0)) (omega arith)
+    (few x) (leb-false (pattern x .count) (pattern x .output .0) (x .before .before .if3 .left))
 
 returns : tie.Need-returns
 returns c =
@@ -40,31 +40,21 @@ returns c =
     refused BadPattern (λ v. ⊎-elim (λ t. omega (arith, v .some)) (⊎-elim (λ t. omega (arith, v .few, ltb-true 64 (p .count) (t .1 .taken)))
     (λ t. omega (arith, v .output, leb-true (p .count) (p .output .0) (t .2 .taken)))) (c .if1 .came))
 
-steps-right-requires : tie.Need-steps-right-requires
-steps-right-requires c κs =
-    let l = long (c .before .before .before .before .before .before) in
-    let f = few (c .before .before .before .before .before .before) in
-    (simp length-take (omega (arith, f, l .0, l .1)), simp length-take (omega (arith, f, l .0, l .2)))
-
 pub check-pattern-spec : {M : Type 1} → statement M
 check-pattern-spec = tie.close (tie.spec (λ c. search needs) returns
-    (λ c. omega (arith, few (c .before .before .before), long (c .before .before .before) .0))
-    (λ c. simp length-take (omega (arith, few (c .before .before .before .before), long (c .before .before .before .before) .0)))
-    (λ c. omega (arith, few (c .before .before .before .before), long (c .before .before .before .before) .1))
-    (λ c. simp length-take (omega (arith, few (c .before .before .before .before .before), long (c .before .before .before .before .before) .1)))
-    (λ c. omega (arith, few (c .before .before .before .before .before), long (c .before .before .before .before .before) .2))
-    (λ c. simp length-take (omega (
-      arith,
-      few (c .before .before .before .before .before .before),
-      long (c .before .before .before .before .before .before) .2,
-    )))
-    steps-right-requires
+    (λ c κs. tt)
+    (λ c. omega (arith, few (c .before .before), long (c .before .before) .0))
+    (λ c. simp length-take (omega (arith, few (c .before .before .before), long (c .before .before .before) .0)))
+    (λ c. omega (arith, few (c .before .before .before), long (c .before .before .before) .1))
+    (λ c. simp length-take (omega (arith, few (c .before .before .before .before), long (c .before .before .before .before) .1)))
+    (λ c. omega (arith, few (c .before .before .before .before), long (c .before .before .before .before) .2))
+    (λ c. simp length-take (omega (arith, few (c .before .before .before .before .before), long (c .before .before .before .before .before) .2)))
+    (λ c κs.
+    let x = c .before .before .before .before .before in let l = long x in
+    (simp length-take (omega (arith, few x, l .0)), simp length-take (omega (arith, few x, l .0, l .1)), simp length-take (omega (arith, few x, l .0, l .2))))
     (λ c. (
-      (
-        steps (c .before .before .before .before .before .before .before .before) .0 (c .before .steps-right .ensures .0 (subst T (sym (c .if4 .taken)) tt)),
-        tt,
-      ),
+      (steps (c .before .before .before .before .before .before .before) .0 (c .before .steps-right .ensures .0 (subst T (sym (c .if4 .taken)) tt)), tt),
       tt,
     ))
     (λ c. refused BadPattern (λ v. subst T (c .if4 .left) (c .before .steps-right .ensures .1
-    (steps (c .before .before .before .before .before .before .before .before) .1 v)))))
+    (steps (c .before .before .before .before .before .before .before) .1 v)))))

@@ -23,7 +23,7 @@ returns c =
 
 pub steps-right-spec : {M : Type 1} → statement M
 steps-right-spec = tie.close (tie.spec Inv-loop μ-loop (λ c. (omega arith, λ k l. absurd (omega arith)))
-    (λ c κs. ((omega arith, c .before .before .before .before .before .pre .0, c .before .before .before .before .before .pre .1), c .before .loop .inv .1))
+    (λ c. search needs) (λ c κs. ((omega arith, omega arith, omega arith), c .before .loop .inv .1))
     returns (λ c. search needs) (λ c. search needs)
     (λ c. (
       omega arith,
