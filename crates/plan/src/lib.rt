@@ -14,6 +14,7 @@ ghost use Rattle.plan.specs.Leading.{ToParent, Led, Doubled, Spread, loo
 ghost use Rattle.plan.specs.Plans.{TablePlan, GroupPlan, DownPlan};
 use tables::Pattern;
 use tables::STEPS;
+use tables::StepNo;
 
 // The values of a byte, and the entries of a table that the bytes of a set of steps look up.
 pub const BYTE: usize = 256;
@@ -21,19 +22,19 @@ pub const BYTE: usize = 256;
 pub const TABLE: usize = 2048;
 
 // The number with bit s alone.
-pub fn one_bit(s: usize) -> u64
-    requires { ⌜ s < 64 ⌝ }
-    ensures { λ r. ⌜ r ≡ 2 ^ s ⌝ }
+pub fn one_bit(s: StepNo) -> u64
+    requires { ⌜ s .0 < 64 ⌝ }
+    ensures { λ r. ⌜ r ≡ 2 ^ s .0 ⌝ }
 {
-    1 << s
+    1 << s.0
 }
 
 // Does x have bit s?
-pub fn has_bit(x: u64, s: usize) -> bool
-    requires { ⌜ s < 64 ⌝ }
-    ensures { λ r. ⌜ T r ↔ (bit x s ≡ 1) ⌝ }
+pub fn has_bit(x: u64, s: StepNo) -> bool
+    requires { ⌜ s .0 < 64 ⌝ }
+    ensures { λ r. ⌜ T r ↔ (bit x (s .0) ≡ 1) ⌝ }
 {
-    (x >> s) % 2 == 1
+    (x >> s.0) % 2 == 1
 }
 
 // The steps of p by the low byte and by the high byte of their label, in tables of zeros.
@@ -47,7 +48,7 @@ pub fn label_steps(p: Pattern, low: &mut [u64; BYTE], high: &mut [u64; BYTE])
         let l = p.label[s];
         let a = (l % 256) as usize;
         let b = (l / 256) as usize;
-        let m = one_bit(s);
+        let m = one_bit(StepNo(s as u8));
         low[a] = low[a] | m;
         high[b] = high[b] | m;
     }
@@ -82,17 +83,18 @@ pub fn gather(p: Pattern, children: &mut [u64; STEPS], parents: &mut [u64; STEPS
     let mut next: u64 = 0;
     let mut forked: u64 = 0;
     for t in 1..n {
-        let s = p.parent[t] as usize;
-        let own = one_bit(t);
+        let s = p.parent[t];
+        let own = one_bit(StepNo(t as u8));
         let up = one_bit(s);
-        children[s] = children[s] | own;
+        let over = s.0 as usize;
+        children[over] = children[over] | own;
         parents[t] = up;
         if p.axis[t] == 0 {
             child = child | own;
         } else {
             descendant = descendant | own;
         }
-        if s + 1 == t {
+        if over + 1 == t {
             next = next | own;
         } else {
             forked = forked | up;
@@ -204,7 +206,7 @@ pub fn group(
     for s in 0..n {
         let x = children[s] ^ (children[s] & next);
         if x != 0 {
-            forks[k] = one_bit(s);
+            forks[k] = one_bit(StepNo(s as u8));
             later[k] = x;
             k += 1;
         }

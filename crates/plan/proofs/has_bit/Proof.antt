@@ -8,7 +8,7 @@ use Rattle.plan.proofs.has_bit.Tie as tie
 
 returns : tie.Need-returns
 unfolding bit
-returns c = let t = tells-eq (c .args .x / 2 ^ c .args .s % 2) 1 in (t .says, t .test)
+returns c = let t = tells-eq (c .before .args .x / 2 ^ c .before .args .s .0 % 2) 1 in (t .says, t .test)
 
 pub has-bit-spec : {M : Type 1} → statement M
-has-bit-spec = tie.close (tie.spec (λ c. search needs) returns)
+has-bit-spec = tie.close (tie.spec (λ c. search needs) (λ c. search needs) returns)

@@ -5,7 +5,7 @@ use Rattle.plan.proofs.one_bit.Statement.{statement}
 use Rattle.plan.proofs.one_bit.Tie as tie
 
 returns : tie.Need-returns
-returns c = shl-one (c .args .s) (c .pre)
+returns c = shl-one (c .before .args .s .0) (c .before .pre)
 
 pub one-bit-spec : {M : Type 1} → statement M
-one-bit-spec = tie.close (tie.spec (λ c. search needs) returns)
+one-bit-spec = tie.close (tie.spec (λ c. search needs) (λ c. search needs) returns)
