@@ -21,17 +21,17 @@ fn join_table(v: Pattern, e: Pattern) -> Pattern
     requires { ⌜ Joinable v e ⌝ }
     ensures { λ r. ⌜ r ≡ joinOf v e ⌝ }
 {
-    let o = v.output.0;
+    let o = v.output;
     let more = e.count - 1;
     let n = v.count + more;
     let mut p = Pattern {
-        parent: [0u8; STEPS],
+        parent: [StepNo(0); STEPS],
         axis: [0u8; STEPS],
         label: [0u16; STEPS],
         count: n,
-        output: StepNo(o + e.output.0),
+        output: StepNo(o.0 + e.output.0),
     };
-    let last = o as usize;
+    let last = o.0 as usize;
     let mut u = 0;
     while u <= last {
         p.parent[u] = v.parent[u];
@@ -41,7 +41,7 @@ fn join_table(v: Pattern, e: Pattern) -> Pattern
     }
     while u <= last + more {
         let t = u - last;
-        p.parent[u] = o + e.parent[t];
+        p.parent[u] = StepNo(o.0 + e.parent[t].0);
         p.axis[u] = e.axis[t];
         p.label[u] = e.label[t];
         u += 1;
@@ -49,8 +49,8 @@ fn join_table(v: Pattern, e: Pattern) -> Pattern
     while u < n {
         let s = u - (e.count - 1);
         let mut q = v.parent[s];
-        if o < q {
-            q += more as u8;
+        if o.0 < q.0 {
+            q = StepNo(q.0 + more as u8);
         }
         p.parent[u] = q;
         p.axis[u] = v.axis[s];

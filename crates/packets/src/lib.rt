@@ -13,6 +13,7 @@ ghost use Rattle.packets.specs.DocumentPacket.{documentPacket, ReadsNode
 use tables::Checked;
 use tables::Counted;
 use tables::NODES;
+use tables::NodeNo;
 use tables::Pattern;
 use tables::Refusal;
 use tables::STEPS;
@@ -57,14 +58,14 @@ fn pattern_in(s: &[u8], n: usize) -> Pattern
     ensures { λ r. ⌜ r ≡ packetPattern (now (s .entry)) ⌝ }
 {
     let mut p = Pattern {
-        parent: [0u8; STEPS],
+        parent: [StepNo(0); STEPS],
         axis: [0u8; STEPS],
         label: [0u16; STEPS],
         count: n,
         output: StepNo(s[3]),
     };
     for k in 0..n {
-        p.parent[k] = s[4 + 4 * k];
+        p.parent[k] = StepNo(s[4 + 4 * k]);
         p.axis[k] = s[5 + 4 * k];
         p.label[k] = halves::get_half(s, 6 + 4 * k);
     }
@@ -132,11 +133,11 @@ fn put_head(out: &mut [u8], field: u16)
 }
 
 // Puts the four bytes of a step at `at`.
-fn put_step(out: &mut [u8], at: usize, parent: u8, axis: u8, label: u16)
+fn put_step(out: &mut [u8], at: usize, parent: StepNo, axis: u8, label: u16)
     requires { ⌜ at + 4 ≤ length (now out) ⌝ }
-    ensures { λ _. ⌜ now (out .exit) ≡ take at (now (out .entry)) ++ (parent ∷ axis ∷ high label ∷ low label ∷ []) ++ drop (at + 4) (now (out .entry)) ⌝ }
+    ensures { λ _. ⌜ now (out .exit) ≡ take at (now (out .entry)) ++ (parent .0 ∷ axis ∷ high label ∷ low label ∷ []) ++ drop (at + 4) (now (out .entry)) ⌝ }
 {
-    out[at] = parent;
+    out[at] = parent.0;
     out[at + 1] = axis;
     halves::put_half(out, at + 2, label);
 }
@@ -221,12 +222,12 @@ pub fn read_document(s: &[u8], parents: &mut [u16], labels: &mut [u16]) -> Count
 }
 
 // Puts the four bytes of a node at `at`.
-fn put_node(out: &mut [u8], at: usize, parent: u16, label: u16)
+fn put_node(out: &mut [u8], at: usize, parent: NodeNo, label: u16)
     requires { ⌜ at + 4 ≤ length (now out) ⌝ }
     ensures { λ _. ⌜ now (out .exit) ≡
-        take at (now (out .entry)) ++ (high parent ∷ low parent ∷ high label ∷ low label ∷ []) ++ drop (at + 4) (now (out .entry)) ⌝ }
+        take at (now (out .entry)) ++ (high (parent .0) ∷ low (parent .0) ∷ high label ∷ low label ∷ []) ++ drop (at + 4) (now (out .entry)) ⌝ }
 {
-    halves::put_half(out, at, parent);
+    halves::put_half(out, at, parent.0);
     halves::put_half(out, at + 2, label);
 }
 
@@ -239,7 +240,7 @@ pub fn put_document(parents: &[u16], labels: &[u16], out: &mut [u8])
     let n = parents.len();
     put_head(out, (4 * n) as u16);
     for i in 0..n {
-        put_node(out, 3 + 4 * i, parents[i], labels[i]);
+        put_node(out, 3 + 4 * i, NodeNo(parents[i]), labels[i]);
     }
 }
 

@@ -2,3 +2,7 @@
 pub mod Joining
 pub mod Rewriting
 pub mod Containment
+pub mod Lines
+pub mod Asking
+pub mod Refused
+pub mod Starting

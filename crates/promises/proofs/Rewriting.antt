@@ -18,6 +18,7 @@ use Rattle.rewriting.specs.declared.Rewriting.{Rewriting}
 use Rattle.rewriting.specs.declared.Rewriting.the-variants as rewriting
 use Rattle.rewriting.specs.declared.RewritingAnswer.{RewritingAnswer}
 use Rattle.rewriting.proofs.Rewritten.{rewriting-exact, candidate-narrowest}
+use Rattle.promises.specs.Gives.{Gives}
 
 -- an answer that is another case
 not-handed : {X : Type 0} → rewriting.Nothing ≡ rewriting.Handed → X
@@ -41,12 +42,29 @@ handed-exactly Q U r h c = exactly Q U (r .answer) (r .pattern) h c
 pub handed-serves : (Q U : Pattern) (r : RewritingAnswer) → Rewrites Q U r → r .answer ≡ rewriting.Handed → Serves Q U (r .pattern)
 handed-serves Q U r h e = subst (λ (a : Rewriting). AnswersRewriting Q U a (r .pattern)) e h .2
 
--- so that, started at the view's answers, it has the query's answers on every document
-pub handed-answers : (Q U : Pattern) (r : RewritingAnswer) → Rewrites Q U r → r .answer ≡ rewriting.Handed → (d : Document) → ValidDocument d → (i : ℕ)
-    → Started (Answer (shapeOf U) d) (shapeOf (r .pattern)) d i ↔ Answer (shapeOf Q) d i
-handed-answers Q U r h e d v i =
-    let s = handed-serves Q U r h e in let j = join-answers U (r .pattern) (s .joinable) d i in
-    (λ a. s .equal .to d v i (j .1 a), λ a. j .0 (s .equal .back d v i a))
+-- a compensation serves exactly where it gives the query's answers: the join has those of the compensation started at the view's
+pub serves-gives : (Q U E : Pattern) → Serves Q U E ↔ Gives Q U E
+serves-gives Q U E = (
+  λ s. record {
+    joinable = s .joinable;
+    answers = λ d v i. let j = join-answers U E (s .joinable) d i in (λ a. s .equal .to d v i (j .1 a), λ a. j .0 (s .equal .back d v i a));
+  },
+  λ g. let j = join-answers U E (g .joinable) in record {
+    joinable = g .joinable;
+    equal = record { to = λ d v i a. g .answers d v i .0 (j d i .0 a); back = λ d v i a. j d i .1 (g .answers d v i .1 a) };
+  },
+)
+
+-- where the checks pass, a compensation is handed over exactly when some joinable one gives the query's answers on every document
+pub handed-exactly-when : (Q U : Pattern) (r : RewritingAnswer) → Rewrites Q U r → Passes (rewritingChecks Q U) → (r .answer ≡ rewriting.Handed) ↔
+    ((E : Pattern) × Gives Q U E)
+handed-exactly-when Q U r h c =
+    let k = handed-exactly Q U r h c in
+    (λ e. let w = k .0 e in (w .0, serves-gives Q U (w .0) .0 (w .1)), λ w. k .1 (w .0, serves-gives Q U (w .0) .1 (w .1)))
+
+-- and the one handed over does: it can be joined, and started at the view's answers it has the query's on every document
+pub handed-gives : (Q U : Pattern) (r : RewritingAnswer) → Rewrites Q U r → r .answer ≡ rewriting.Handed → Gives Q U (r .pattern)
+handed-gives Q U r h e = serves-gives Q U (r .pattern) .0 (handed-serves Q U r h e)
 
 -- and is contained in every compensation that serves
 pub handed-narrowest : (Q U E : Pattern) (r : RewritingAnswer) → Rewrites Q U r → r .answer ≡ rewriting.Handed → Serves Q U E → Contained

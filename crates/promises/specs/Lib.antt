@@ -1,1 +1,2 @@
--- The theorems stand in proofs/. Assumes nothing.
+-- What a reader must believe of the promises that several calls make together, file by file. Assumes nothing.
+pub mod Gives

@@ -14,7 +14,7 @@ returns : tie.Need-returns
 returns c =
     let p = c .before .before .before .before .before .before in let a = p .before .before .before .args in
     let e : a .at + 2 + 2 ≡ a .at + 4 = omega arith in
-    rw e at (put-two (now (a .out)) _ _ (high (a .parent) ∷ low (a .parent) ∷ []) (high (a .label) ∷ low (a .label) ∷ []) (a .at) 2 2 (omega arith) refl
+    rw e at (put-two (now (a .out)) _ _ (high (a .parent .0) ∷ low (a .parent .0) ∷ []) (high (a .label) ∷ low (a .label) ∷ []) (a .at) 2 2 (omega arith) refl
     (p .put-half .ensures) (c .before .before .put-half2 .ensures))
 
 pub put-node-spec : {M : Type 1} → statement M

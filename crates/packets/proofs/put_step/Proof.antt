@@ -16,8 +16,8 @@ returns : tie.Need-returns
 returns c =
     let a = c .before .before .before .before .before .args in
     let s : a .at + 1 ≡ suc (a .at) = omega arith in let e : a .at + 2 + 2 ≡ a .at + 4 = omega arith in
-    rw e at (put-two (now (a .out)) _ _ (a .parent ∷ a .axis ∷ []) (high (a .label) ∷ low (a .label) ∷ []) (a .at) 2 2 (omega arith) refl
-    (rw s (sets-eq (a .parent ∷ a .axis ∷ []) (now (a .out)) (a .at) (omega arith))) (c .before .before .put-half .ensures))
+    rw e at (put-two (now (a .out)) _ _ (a .parent .0 ∷ a .axis ∷ []) (high (a .label) ∷ low (a .label) ∷ []) (a .at) 2 2 (omega arith) refl
+    (rw s (sets-eq (a .parent .0 ∷ a .axis ∷ []) (now (a .out)) (a .at) (omega arith))) (c .before .before .put-half .ensures))
 
 pub put-step-spec : {M : Type 1} → statement M
 put-step-spec = tie.close (tie.spec (λ c. search needs) (λ c. search needs) (λ c. simp length-set (omega arith)) (λ c. search needs)
