@@ -1,11 +1,12 @@
 // Containment of one pattern in another (docs/RULES.md, "Containment").
 ghost use Prim.Native.Nat.{ℕ, _≤_};
 ghost use mathlib.Core.Path.{_≡_};
-ghost use mathlib.Core.Logic.{_⊎_};
+ghost use mathlib.Core.Logic.{_⊎_, _↔_};
 ghost use mathlib.Core.Bool.{false};
 ghost use lib.Dec.{T};
 ghost use lib.ListN.{getD};
-ghost use Rattle.tables.specs.Pattern.{shapeOf};
+ghost use Rattle.tables.specs.Pattern.{shapeOf, ValidPattern};
+ghost use Rattle.containment.specs.Mapping.{Equal};
 ghost use Rattle.containment.specs.Containment.{mappingArray, DecidesContainment};
 ghost use Rattle.containment.specs.Equality.{DecidesEquality};
 ghost use Rattle.containment.specs.Witness.{Stands};
@@ -96,6 +97,17 @@ fn fresh(a: Pattern, b: Pattern) -> u16
     found
 }
 
+// Do a and b, which obey the rules, have the same answers on every document? For the crates above: asks for what they have checked.
+pub fn same(a: Pattern, b: Pattern) -> bool
+    requires { ⌜ ValidPattern a × ValidPattern b ⌝ }
+    ensures { λ r. ⌜ T r ↔ Equal (shapeOf a) (shapeOf b) ⌝ }
+{
+    if !comparing::within(a, b) {
+        return false;
+    }
+    comparing::within(b, a)
+}
+
 // Do a and b have the same answers on every document? Equal, where each is contained in the other; or different. Refused by BadPattern if a breaks the rules,
 // then if b does.
 pub fn equal(a: Pattern, b: Pattern) -> Equality
@@ -107,7 +119,7 @@ pub fn equal(a: Pattern, b: Pattern) -> Equality
     if let Checked::Refused(r) = tables::check_pattern(b) {
         return Equality::Refused(r);
     }
-    if !comparing::within(a, b) || !comparing::within(b, a) {
+    if !same(a, b) {
         return Equality::Different;
     }
     Equality::Equal

@@ -16,8 +16,8 @@ pub struct JoinAnswer {
 }
 
 // The join of a view and a compensation that can be joined: the view's steps up to its output step, the compensation's past its first, and the view's others.
-// Zeros past its steps.
-fn join_table(v: Pattern, e: Pattern) -> Pattern
+// Zeros past its steps. For the crates above: asks for what they have checked.
+pub fn join_table(v: Pattern, e: Pattern) -> Pattern
     requires { ⌜ Joinable v e ⌝ }
     ensures { λ r. ⌜ r ≡ joinOf v e ⌝ }
 {

@@ -11,7 +11,6 @@ ghost use Rattle.containment.specs.Mapping.{Equal};
 ghost use Rattle.joining.specs.Join.{joinOf, Joinable};
 ghost use Rattle.rewriting.specs.Candidate.{mainPath, cutStep, Cut, Candidate};
 ghost use Rattle.rewriting.specs.Rewriting.{Serves, Rewrites};
-use containment::Equality;
 use tables::Checked;
 use tables::Pattern;
 use tables::Refusal;
@@ -162,13 +161,8 @@ fn serves(q: Pattern, v: Pattern, e: Pattern) -> bool
     requires { ⌜ Joinable v e ⌝ }
     ensures { λ r. ⌜ T r ↔ Equal (shapeOf (joinOf v e)) (shapeOf q) ⌝ }
 {
-    let j = joining::join(v, e).pattern;
-    let equality = containment::equal(q, j);
-    match equality {
-        Equality::Equal => true,
-        Equality::Different => false,
-        Equality::Refused(_) => false,
-    }
+    let j = joining::join_table(v, e);
+    containment::same(j, q)
 }
 
 // An answer with the zero pattern beside it.

@@ -1,11 +1,8 @@
 -- `containment::equal` meets its contract: both patterns are checked, then each is sought in the other. Assumes nothing.
 use mathlib.Core.Path.{subst}
-use mathlib.Core.Logic.{⊎-elim}
-use lib.Dec.{T}
 use Rattle.tables.specs.Checks.{ChecksPattern}
-use Rattle.tables.specs.Pattern.{shapeOf, ValidPattern}
+use Rattle.tables.specs.Pattern.{ValidPattern}
 use Rattle.tables.proofs.Tests.{passed, failed}
-use Rattle.containment.specs.Mapping.{Contained}
 use Rattle.containment.proofs.Verdicts.{first-refused, second-refused}
 use borrow.Author.Needs.{needs}
 use Rattle.containment.proofs.equal.Statement.{statement}
@@ -32,27 +29,18 @@ returns-2 c =
     second-refused (a .a) (a .b) (c .before .r2 .given .0 .0) (valid (c .before .before .before .before))
     (subst (ChecksPattern (a .b)) (c .before .r2 .given .1) (c .before .before .before .check-pattern2 .ensures))
 
-within-requires-2 : tie.Need-within-requires-2
-within-requires-2 c κs = let v = valid (c .before .before .before .before .before) in let w = valid-2 (c .before .before) in search (needs, v, w)
-
 returns-3 : tie.Need-returns-3
-returns-3 c =
-    let w = c .before .within in
-    let a = c .before .before .before .before .before .before .before .before .args in (
-      (valid (c .before .before .before .before .before), (valid-2 (c .before .before), tt)),
-      λ e. ⊎-elim (λ q. failed (w .result) (q .taken) (w .ensures .1 (e .to)))
-          (λ q. let back : Contained (shapeOf (a .b)) (shapeOf (a .a)) → T (q .1 .result) = q .1 .ensures .1 in
-          failed (q .1 .result) (q .2 .taken) (back (e .back))) (c .if1 .came),
-    )
+returns-3 c = let w = c .before .same in (
+  (valid (c .before .before .before .before .before), (valid-2 (c .before .before), tt)),
+  λ e. failed (w .result) (c .if1 .taken) (w .ensures .1 e),
+)
 
 returns-4 : tie.Need-returns-4
-returns-4 c =
-    let w = c .before .before .before .within in
-    let b = c .before .within2 in (
-      (valid (c .before .before .before .before .before .before .before), (valid-2 (c .before .before .before .before), tt)),
-      record { to = w .ensures .0 (passed (w .result) (c .before .before .if1 .left)); back = b .ensures .0 (passed (b .result) (c .if2 .left)) },
-    )
+returns-4 c = let w = c .before .same in (
+  (valid (c .before .before .before .before .before), (valid-2 (c .before .before), tt)),
+  w .ensures .0 (passed (w .result) (c .if1 .left)),
+)
 
 pub equal-spec : {M : Type 1} → statement M
 equal-spec = tie.close (tie.spec (λ c κs. search needs) (λ c. search needs) returns (λ c. search needs) (λ c κs. search needs) (λ c. search needs)
-    returns-2 (λ c. search needs) (λ c κs. (valid (c .before .before .before), valid-2 c)) within-requires-2 returns-3 returns-4)
+    returns-2 (λ c. search needs) (λ c κs. (valid (c .before .before .before), valid-2 c)) returns-3 returns-4)
