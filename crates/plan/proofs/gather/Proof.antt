@@ -58,12 +58,12 @@ loop-again c =
       simp length-set (i .3),
       rw own (keyed-more f 1 t (m .loop .children) (i .0) (omega (arith, few (c .before .before .before .before .before .before .before .before))) (i .4)),
       rw up (pointed-more f t (m .loop .parents) (i .0) (omega arith) (i .5)),
-      ⊎-elim (λ w. rw (w .1, own) (among-more 1 (x 0) (m .loop .child) t (i .0) (w .0 .taken) (i .6)))
-          (λ w. rw (w .1) (among-skip 1 (x 0) (m .loop .child) t (w .0 .left) (i .6)))
+      ⊎-elim (λ w. rw (w .1, own) (among-more 1 (x 0) (m .loop .child) t (i .0) (omega (arith, w .0 .taken)) (i .6)))
+          (λ w. rw (w .1) (among-skip 1 (x 0) (m .loop .child) t (λ e. omega (arith, w .0 .left, e)) (i .6)))
           (c .before .if1 .came),
       ⊎-elim (λ w. rw (w .2) (among-skip 1 (x 1) (m .loop .descendant) t (λ e. omega (arith, w .0 .taken, e)) (i .7)))
           (λ w. rw (w .2, own) (among-more 1 (x 1) (m .loop .descendant) t (i .0)
-          (⊎-elim (λ e. absurd (w .0 .left e)) (λ e. e) (m .before .pre .0 .steps t
+          (⊎-elim (λ e. absurd (omega (arith, w .0 .left, e))) (λ e. e) (m .before .pre .0 .steps t
           (c .before .before .before .before .before .before .before .before .loop-test .taken) .axis)) (i .7)))
           (c .before .if1 .came),
       ⊎-elim (λ w. rw (w .1, own) (among-more 1 q (m .loop .next) t (i .0) (w .0 .taken) (i .8)))

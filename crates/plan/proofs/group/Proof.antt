@@ -39,7 +39,7 @@ loop-again c =
       omega (arith, w .3),
       rw (w .1) (i .2),
       rw (w .2) (i .3),
-      rw (w .1, w .2, w .3) (groups-skip (now (s .children)) (s .next) (m .loop .s) (m .loop .k) forks later (i .4) (w .0 .left)),
+      rw (w .1, w .2, w .3) (groups-skip (now (s .children)) (s .next) (m .loop .s) (m .loop .k) forks later (i .4) (omega (arith, w .0 .left))),
     ))
     (c .if1 .came)
 
