@@ -33,24 +33,24 @@ extern "C" {
 
 /* Why a call refuses. The first that applies is given, in the order that each function names. */
 enum nishkavel_refusal {
-    NISHKAVEL_REFUSED_VERSION = 1,      /* the version byte of a packet is not 1 */
-    NISHKAVEL_REFUSED_LENGTH = 2,       /* fewer than 3 bytes, or a length that is not allowed or disagrees with the bytes present */
-    NISHKAVEL_REFUSED_PATTERN = 3,      /* a pattern breaks its rules */
-    NISHKAVEL_REFUSED_DOCUMENT = 4,     /* a document breaks its rules */
-    NISHKAVEL_REFUSED_ROOM = 5,         /* a room or a list is too short */
-    NISHKAVEL_REFUSED_START = 6,        /* a compensation starts with axis descendant, or a start list is not ascending nodes of the document */
-    NISHKAVEL_REFUSED_OTHER_LABEL = 7,  /* the compensation's first label is not that of the view's output step */
-    NISHKAVEL_REFUSED_TOO_LARGE = 8,    /* a join would pass 64 steps, or a query or a view for rewriting passes 32 */
-    NISHKAVEL_REFUSED_NO_LABEL = 9      /* two patterns leave no label for a witness */
+    NISHKAVEL_REFUSED_VERSION = 1,     /* the version byte of a packet is not 1 */
+    NISHKAVEL_REFUSED_LENGTH = 2,      /* fewer than 3 bytes, or a length that is not allowed or disagrees with the bytes present */
+    NISHKAVEL_REFUSED_PATTERN = 3,     /* a pattern breaks its rules */
+    NISHKAVEL_REFUSED_DOCUMENT = 4,    /* a document breaks its rules */
+    NISHKAVEL_REFUSED_ROOM = 5,        /* a room or a list is too short */
+    NISHKAVEL_REFUSED_START = 6,       /* a compensation starts with axis descendant, or a start list is not ascending nodes of the document */
+    NISHKAVEL_REFUSED_OTHER_LABEL = 7, /* the compensation's first label is not that of the view's output step */
+    NISHKAVEL_REFUSED_TOO_LARGE = 8,   /* a join would pass 64 steps, or a query or a view for rewriting passes 32 */
+    NISHKAVEL_REFUSED_NO_LABEL = 9     /* two patterns leave no label for a witness */
 };
 
 /* Sizes that are always enough. */
 enum {
-    NISHKAVEL_MAX_NODES = 2048,           /* nodes of a document */
-    NISHKAVEL_MAX_STEPS = 64,             /* steps of a pattern */
-    NISHKAVEL_MAX_DOCUMENT_BYTES = 8195,  /* a document packet */
-    NISHKAVEL_MAX_PATTERN_BYTES = 260,    /* a pattern packet */
-    NISHKAVEL_MAX_CONTAINED_BYTES = 517   /* the room of nishkavel_contained, which needs all of it */
+    NISHKAVEL_MAX_NODES = 2048,          /* nodes of a document */
+    NISHKAVEL_MAX_STEPS = 64,            /* steps of a pattern */
+    NISHKAVEL_MAX_DOCUMENT_BYTES = 8195, /* a document packet */
+    NISHKAVEL_MAX_PATTERN_BYTES = 260,   /* a pattern packet */
+    NISHKAVEL_MAX_CONTAINED_BYTES = 517  /* the room of nishkavel_contained, which needs all of it */
 };
 
 /* The answers of a pattern in a document. The count c; the first 2c bytes of the room are the answers, ascending, two bytes each, and the bytes past them stay.
@@ -87,14 +87,12 @@ int64_t nishkavel_read_document(const uint8_t *document, size_t document_len, ui
  * 2i of the working list says that step s with all below it can stand at node i, bit s of entry 2i + 1 that it stands there in a whole placement. The
  * entries of both lists past these stay. Refused by the pattern packet (2, 1, 2, 3), a document that breaks its rules (4), or a list of fewer than n entries
  * or a working list of fewer than 2n (5). */
-int64_t nishkavel_list_answers(const uint16_t *parents, size_t parents_len, const uint16_t *labels, size_t labels_len,
-                               const uint8_t *pattern, size_t pattern_len,
-                               uint16_t *list, size_t list_len, uint64_t *work, size_t work_len);
+int64_t nishkavel_list_answers(const uint16_t *parents, size_t parents_len, const uint16_t *labels, size_t labels_len, const uint8_t *pattern,
+                               size_t pattern_len, uint16_t *list, size_t list_len, uint64_t *work, size_t work_len);
 
 /* The same with step 0 at any of the start nodes. Refused by the pattern packet, 4, 6, 5. */
-int64_t nishkavel_list_started(const uint16_t *parents, size_t parents_len, const uint16_t *labels, size_t labels_len,
-                               const uint8_t *pattern, size_t pattern_len,
-                               const uint16_t *starts, size_t starts_len, uint16_t *list, size_t list_len, uint64_t *work, size_t work_len);
+int64_t nishkavel_list_started(const uint16_t *parents, size_t parents_len, const uint16_t *labels, size_t labels_len, const uint8_t *pattern,
+                               size_t pattern_len, const uint16_t *starts, size_t starts_len, uint16_t *list, size_t list_len, uint64_t *work, size_t work_len);
 
 /* Reads a pattern packet and writes it back, the same bytes: its length, with the packet at the front of the room and the bytes past it as they were.
  * Refused by the packet (2, 1, 2, 3), or a room shorter than it (5). */

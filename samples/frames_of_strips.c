@@ -11,25 +11,25 @@
 /* Labels: 1 line, 2 strip, 3 frame, 4 pose, 5 control. */
 
 /* Flight line seven: a line with two strips, the first with a control mark and a frame that has a pose, the second with a frame. */
-static const uint8_t line[] = {1, 0, 28,       /* version 1, 28 bytes follow, 4 for each node */
-                               255, 255, 0, 1, /* node 0: the line */
-                               0, 0, 0, 2,     /* node 1: a strip of it */
-                               0, 1, 0, 5,     /* node 2: a control mark of strip 1 */
-                               0, 1, 0, 3,     /* node 3: a frame of strip 1 */
-                               0, 3, 0, 4,     /* node 4: the pose of frame 3 */
-                               0, 0, 0, 2,     /* node 5: another strip of the line */
-                               0, 5, 0, 3};    /* node 6: a frame of strip 5 */
+static const uint8_t line[] = {1,   0,   28,     /* version 1, 28 bytes follow, 4 for each node */
+                               255, 255, 0,  1,  /* node 0: the line */
+                               0,   0,   0,  2,  /* node 1: a strip of it */
+                               0,   1,   0,  5,  /* node 2: a control mark of strip 1 */
+                               0,   1,   0,  3,  /* node 3: a frame of strip 1 */
+                               0,   3,   0,  4,  /* node 4: the pose of frame 3 */
+                               0,   0,   0,  2,  /* node 5: another strip of the line */
+                               0,   5,   0,  3}; /* node 6: a frame of strip 5 */
 
 /* //strip//frame, whose output step is step 1. */
-static const uint8_t frames[] = {1, 0, 9, 1,   /* version 1, 9 bytes follow, the output step */
-                                 255, 1, 0, 2, /* step 0: descendant, strip */
-                                 0, 1, 0, 3};  /* step 1: below step 0, descendant, frame */
+static const uint8_t frames[] = {1,   0, 9, 1,  /* version 1, 9 bytes follow, the output step */
+                                 255, 1, 0, 2,  /* step 0: descendant, strip */
+                                 0,   1, 0, 3}; /* step 1: below step 0, descendant, frame */
 
 /* //strip//frame[pose]. */
-static const uint8_t frames_with_pose[] = {1, 0, 13, 1,
-                                           255, 1, 0, 2,
-                                           0, 1, 0, 3,
-                                           1, 0, 0, 4}; /* step 2: below step 1, child, pose */
+static const uint8_t frames_with_pose[] = {1,   0, 13, 1,  /* version 1, 13 bytes follow, the output step */
+                                           255, 1, 0,  2,  /* step 0: descendant, strip */
+                                           0,   1, 0,  3,  /* step 1: below step 0, descendant, frame */
+                                           1,   0, 0,  4}; /* step 2: below step 1, child, pose */
 
 /* Prints a word and the nodes, which stand in two bytes each. */
 static void print_nodes(const char *word, const uint8_t *room, int64_t count)

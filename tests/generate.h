@@ -4,7 +4,9 @@
 
 #include "evaluator.h"
 
-struct source { uint64_t state; };
+struct source {
+    uint64_t state;
+};
 
 /* Numbers. */
 void sow(struct source *r, uint64_t seed);
