@@ -191,8 +191,8 @@ static enum shape look(const uint16_t *parents, const uint16_t *labels, int n)
     for (int i = 1; i < n; i++) {
         uint16_t up = parents[i];
         bad |= (uint16_t)(up >= (uint16_t)i) | (uint16_t)(labels[i] == 0);
-        deep += up == (uint16_t)(i - 1);
-        flat += up == parents[i - 1];
+        deep = (uint16_t)(deep + (up == (uint16_t)(i - 1)));
+        flat = (uint16_t)(flat + (up == parents[i - 1]));
     }
     if (bad) return BROKEN;
     return 4 * deep >= 3 * (n - 1) ? DEEP : 4 * flat >= 3 * (n - 1) ? FLAT : MIXED;

@@ -197,7 +197,7 @@ static void check_evaluator(void)
     if (chance(r, 50)) make_pattern(r, &c, between(r, 1, 5), &a);
     else make_met(r, &d, between(r, 1, 5), &a);
     allow_by_axis(&a, &d, allowed);
-    for (size_t i = 0; i < d.n && chance(r, 50); i++) allowed[i] = (uint8_t)chance(r, 50);
+    for (size_t i = 0; i < d.n && chance(r, 50); i++) allowed[i] = chance(r, 50);
     find_by_trial(&a, &d, allowed, &f);
     find_by_recursion(&a, &d, allowed, &g);
     begin("the evaluator");
@@ -266,7 +266,7 @@ static void round_of_starts(const struct palette *c, const struct document *d, c
     static uint16_t starts[NODES + 2];
     uint8_t allowed[NODES];
     make_compensation(r, c, v, some_steps(), &e);
-    if (chance(r, 30)) make_met(r, d, some_steps(), &e), e.axis[0] = (uint8_t)chance(r, 10);
+    if (chance(r, 30)) make_met(r, d, some_steps(), &e), e.axis[0] = chance(r, 10);
     pack_pattern(&e, &pattern);
     allow_by_axis(v, d, allowed);
     find(v, d, allowed, &f);
