@@ -22,6 +22,11 @@
 
 enum { N = NISHKAVEL_MAX_NODES, S = NISHKAVEL_MAX_STEPS };
 enum { SAMPLES = 1001, SAMPLE_US = 60, ENGINE_US = 300000, ENGINE_SECONDS = 5 };
+enum {
+    ROW_GOAL = 2,   /* no row takes more than so many times the hand-written C */
+    TREE_GOAL = 1,  /* libxml2 on a parsed tree takes more than so many times a call, where there are descendants or conditions */
+    BYTES_GOAL = 8, /* libxml2 from bytes takes at least so many times the C entry */
+};
 
 static int samples = 101;
 
@@ -354,25 +359,57 @@ static void take_turns(job **jobs, int count, double *medians)
 
 /* ---- summaries ---- */
 
+/* Some rows by name, each with its figure. */
+struct rows {
+    int count;
+    char text[16384];
+};
+
+static void name_row(struct rows *r, const char *where, double figure)
+{
+    size_t used = strlen(r->text);
+    int more = snprintf(r->text + used, sizeof r->text - used, "%s%s (%.2f)", used ? "; " : "", where, figure);
+    if (more < 0 || used + (size_t)more >= sizeof r->text) stop("no room for the names of rows");
+    r->count++;
+}
+
+/* The ratios to hand-written C of one kind of call. */
 struct summary {
     double logs, worst;
     int rows;
     char where[128];
+    struct rows over;
+};
+
+/* The least factor by which libxml2 takes longer. */
+struct least {
+    double factor;
+    char where[128];
 };
 
 static struct summary lists, packets, containment, rewriting;
-static double least_tree = 1e9, least_bytes = 1e9; /* the first over the rows with descendants or conditions */
-static char least_tree_where[128], least_bytes_where[128], slower[4096];
+static struct least least_tree = {1e9, ""}, least_bytes = {1e9, ""}; /* the first over the rows with descendants or conditions */
+static struct rows slower;                                           /* than libxml2 on a parsed tree */
+static int slower_by_hand;                                           /* how many of these the hand-written C is slower on too */
+static int unfinished;                                               /* the rows that libxml2 takes too long for */
 static int misses;
 
 static void count_in(struct summary *s, double ratio, const char *where)
 {
     s->logs += log(ratio);
     s->rows++;
+    if (ratio > ROW_GOAL) name_row(&s->over, where, ratio);
     if (ratio > s->worst) {
         s->worst = ratio;
         snprintf(s->where, sizeof s->where, "%s", where);
     }
+}
+
+static void note_least(struct least *l, double factor, const char *where)
+{
+    if (factor >= l->factor) return;
+    l->factor = factor;
+    snprintf(l->where, sizeof l->where, "%s", where);
 }
 
 /* ---- answers ---- */
@@ -501,28 +538,23 @@ static void answers_row(struct document *d, const struct pattern *p, enum kind k
     count_in(&lists, by_lists, where);
     count_in(&packets, by_packets, where);
     char missed[64] = "";
-    if (by_lists > 2) strcat(missed, " lists");
-    if (by_packets > 2) strcat(missed, " packets");
+    if (by_lists > ROW_GOAL) strcat(missed, " lists");
+    if (by_packets > ROW_GOAL) strcat(missed, " packets");
     printf("| %s | %s | %d | %lld | %.1f | %.1f | %.2f | %.1f | %.1f | %.2f |", d->name, kind_names[kind], p->count, (long long)count, t[0], t[1], by_lists,
            t[2], t[3], by_packets);
     if (tree > 0) {
         double factor = tree / t[0], factor_bytes = bytes / t[2];
-        if (kind != CHILD && factor < least_tree) {
-            least_tree = factor;
-            snprintf(least_tree_where, sizeof least_tree_where, "%s", where);
+        if (factor < TREE_GOAL) {
+            name_row(&slower, where, factor);
+            slower_by_hand += tree < t[1];
         }
-        if (factor < 1) {
-            size_t used = strlen(slower);
-            snprintf(slower + used, sizeof slower - used, "%s%s (%.2f)", used ? "; " : "", where, factor);
-            if (kind != CHILD) strcat(missed, " libxml2");
-        }
-        if (factor_bytes < least_bytes) {
-            least_bytes = factor_bytes;
-            snprintf(least_bytes_where, sizeof least_bytes_where, "%s", where);
-        }
-        if (factor_bytes < 8) strcat(missed, " bytes");
+        if (kind != CHILD) note_least(&least_tree, factor, where);
+        if (kind != CHILD && factor <= TREE_GOAL) strcat(missed, " libxml2");
+        note_least(&least_bytes, factor_bytes, where);
+        if (factor_bytes < BYTES_GOAL) strcat(missed, " bytes");
         printf(" %.1f | %.*f | %.1f | %.1f |", tree, factor < 10 ? 2 : 0, factor, bytes, factor_bytes);
     } else {
+        unfinished++;
         printf(" over %d s | - | over %d s | - |", ENGINE_SECONDS, ENGINE_SECONDS);
     }
     printf("%s |\n", missed);
@@ -558,12 +590,13 @@ static void pair_row(const char *what, const struct pattern *a, const struct pat
     double t[2];
     take_turns(sides, 2, t);
     double ratio = t[0] / t[1];
-    char where[128];
-    snprintf(where, sizeof where, "%s, %d %s %d", what, a->count, rewrite ? "by" : "in", b->count);
+    const char *said = rewrite ? (answer ? "handed over" : "none") : (answer ? "contained" : "apart");
+    char where[128], missed[16] = "";
+    snprintf(where, sizeof where, "%s, %d %s %d, %s", what, a->count, rewrite ? "by" : "in", b->count, said);
     count_in(rewrite ? &rewriting : &containment, ratio, where);
-    printf("| %s | %d %s %d | %s | %.2f | %.2f | %.2f |%s |\n", what, a->count, rewrite ? "by" : "in", b->count,
-           rewrite ? (answer ? "handed over" : "none") : (answer ? "contained" : "apart"), t[0], t[1], ratio, ratio > 2 ? " over 2" : "");
-    misses += ratio > 2;
+    if (ratio > ROW_GOAL) snprintf(missed, sizeof missed, " over %d", ROW_GOAL);
+    printf("| %s | %d %s %d | %s | %.2f | %.2f | %.2f |%s |\n", what, a->count, rewrite ? "by" : "in", b->count, said, t[0], t[1], ratio, missed);
+    misses += ratio > ROW_GOAL;
     fflush(stdout);
 }
 
@@ -679,13 +712,28 @@ static void rewriting_rows(void)
 
 /* ---- all ---- */
 
+static const char *met_or_missed(int met) { return met ? "met" : "missed"; }
+
 static void print_summary(const char *what, const struct summary *s, double mean_goal)
 {
     double mean = exp(s->logs / s->rows);
-    printf("- %s: geometric mean %.2f", what, mean);
-    if (mean_goal > 0) printf(" (goal %.1f%s)", mean_goal, mean <= mean_goal ? "" : ", missed");
-    printf(", worst %.2f (goal 2%s): %s\n", s->worst, s->worst <= 2 ? "" : ", missed", s->where);
-    misses += mean_goal > 0 && mean > mean_goal;
+    printf("- %s, %d rows: geometric mean %.2f (goal %g: %s); worst %.2f, %s; ", what, s->rows, mean, mean_goal, met_or_missed(mean <= mean_goal), s->worst,
+           s->where);
+    if (s->over.count == 0) printf("none over %d (goal none: met)\n", ROW_GOAL);
+    else printf("%d over %d (goal none: missed): %s\n", s->over.count, ROW_GOAL, s->over.text);
+    misses += mean > mean_goal;
+}
+
+/* What libxml2's times come to. */
+static void print_engine(void)
+{
+    printf("- libxml2's compiled expression on a parsed tree: least factor on the rows with descendants or conditions %.2f (goal more than %d: %s), %s; ",
+           least_tree.factor, TREE_GOAL, met_or_missed(least_tree.factor > TREE_GOAL), least_tree.where);
+    if (slower.count == 0) printf("libxml2 is faster on no row\n");
+    else printf("libxml2 is faster on %d of all rows, and on %d of these faster than the hand-written C too: %s\n", slower.count, slower_by_hand, slower.text);
+    printf("- libxml2 from bytes: least factor %.1f (goal %d: %s), %s\n", least_bytes.factor, BYTES_GOAL, met_or_missed(least_bytes.factor >= BYTES_GOAL),
+           least_bytes.where);
+    if (unfinished) printf("- Rows that libxml2 did not finish in %d s, without a factor: %d\n", ENGINE_SECONDS, unfinished);
 }
 
 static void quiet(void *context, const char *format, ...)
@@ -745,13 +793,10 @@ int main(int argc, char **argv)
 
     printf("\n## Summary\n\n");
     print_summary("Answers from lists", &lists, 1.5);
-    print_summary("The C entry from packets", &packets, 0);
-    print_summary("Containment", &containment, 0);
-    print_summary("Rewriting", &rewriting, 0);
-    printf("- libxml2's compiled expression on a parsed tree: least factor with descendants or conditions %.2f (goal over 1%s): %s. "
-           "Rows where libxml2 is faster: %s\n",
-           least_tree, least_tree > 1 ? "" : ", missed", least_tree_where, slower[0] ? slower : "none");
-    printf("- libxml2 from bytes: least factor %.1f (goal 8%s): %s\n", least_bytes, least_bytes >= 8 ? "" : ", missed", least_bytes_where);
+    print_summary("The C entry from packets", &packets, ROW_GOAL);
+    print_summary("Containment", &containment, ROW_GOAL);
+    print_summary("Rewriting", &rewriting, ROW_GOAL);
+    print_engine();
     printf("- Rows that miss a goal, and means that do: %d\n", misses);
     return 0;
 }
