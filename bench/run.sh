@@ -14,7 +14,7 @@ out=${1:-}
 samples=${SAMPLES:-101}
 machine=$(uname -m)
 
-tools/install
+bash tools/install
 command -v rt > /dev/null || { echo 'bench: the Rattle kit is not on this machine (no command rt), so that the archive cannot be built' >&2; exit 2; }
 
 build=target/bench

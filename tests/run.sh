@@ -35,7 +35,7 @@ else
   cross=x86_64-linux-gnu-gcc link=(-static) runner=(qemu-x86_64 -L /usr/x86_64-linux-gnu)
   export NISHKAVEL_ASKS=${NISHKAVEL_ASKS:-200}   # to start an emulated program takes long
 fi
-tools/install || exit 1
+bash tools/install || exit 1
 read -ra xml_cflags <<< "$(pkg-config --cflags libxml-2.0)"
 read -ra xml_libs <<< "$(pkg-config --libs libxml-2.0)"
 
@@ -145,7 +145,7 @@ compared=$failed
 [ "$machine" != x86_64 ] || part sanitized compare_sanitized
 part stack "${runner[@]}" "$out/stack"
 part xpath xpath
-part ask tests/ask.sh "${runner[@]}" "$ask"
+part ask bash tests/ask.sh "${runner[@]}" "$ask"
 part ask_cases "$out/ask_cases" "${runner[@]}" "$ask"
 part sample sample
 part style style
