@@ -22,7 +22,8 @@ static inline int lowest(mask m) { return __builtin_ctzll(m); }
 
 static inline unsigned get16(const uint8_t *p) { return (unsigned)p[0] << 8 | p[1]; }
 
-static inline void put16(uint8_t *p, unsigned v) {
+static inline void put16(uint8_t *p, unsigned v)
+{
     p[0] = (uint8_t)(v >> 8);
     p[1] = (uint8_t)v;
 }
@@ -36,14 +37,12 @@ struct pattern {
 };
 
 /* A pattern packet; 0 or a refusal. */
-static int read_pattern(const uint8_t *bytes, size_t len, struct pattern *p) {
-    if (len < 3)
-        return 2;
-    if (bytes[0] != 1)
-        return 1;
+static int read_pattern(const uint8_t *bytes, size_t len, struct pattern *p)
+{
+    if (len < 3) return 2;
+    if (bytes[0] != 1) return 1;
     unsigned l = get16(bytes + 1);
-    if (l + 3 != len || l < 5 || l > 1 + 4 * STEPS || (l & 3) != 1)
-        return 2;
+    if (l + 3 != len || l < 5 || l > 1 + 4 * STEPS || (l & 3) != 1) return 2;
     int count = (int)(l >> 2);
     p->count = count;
     p->out = bytes[3];
@@ -56,29 +55,27 @@ static int read_pattern(const uint8_t *bytes, size_t len, struct pattern *p) {
         p->axis[s] = b[1];
         p->label[s] = (uint16_t)label;
     }
-    if (bad)
-        return 3;
+    if (bad) return 3;
     for (int s = 1; s < count; s++) {
         int up = p->parent[s], at = s - 1;
-        while (up < at)
-            at = p->parent[at];
-        if (up != at)
-            return 3;
+        while (up < at) at = p->parent[at];
+        if (up != at) return 3;
     }
     return 0;
 }
 
 /* How edges lead from a step to its parent and back. */
 struct edges {
-    mask descendant;            /* the steps of axis descendant, step 0 too */
-    mask first;                 /* the steps that hang on the step just before */
-    mask branching;             /* the steps with another step hanging on them */
+    mask descendant; /* the steps of axis descendant, step 0 too */
+    mask first;      /* the steps that hang on the step just before */
+    mask branching;  /* the steps with another step hanging on them */
     int shifts, tests;
     mask shift_steps[STEPS], test_steps[STEPS];
     uint8_t distance[STEPS], parent[STEPS];
 };
 
-static void find_edges(const struct pattern *p, struct edges *e) {
+static void find_edges(const struct pattern *p, struct edges *e)
+{
     mask kids[STEPS], far[STEPS], descendant = p->axis[0], first = 0, rest = 0, parents = 0;
     for (int s = 1; s < p->count; s++) {
         int up = p->parent[s];
@@ -134,37 +131,35 @@ static void find_edges(const struct pattern *p, struct edges *e) {
 }
 
 /* The parents of a set of steps that do not hang on the step just before. */
-static inline mask far_parents(const struct edges *e, mask steps) {
+static inline mask far_parents(const struct edges *e, mask steps)
+{
     mask up = 0;
-    for (int i = 0; i < e->shifts; i++)
-        up |= (steps & e->shift_steps[i]) >> e->distance[i];
-    for (int i = 0; i < e->tests; i++)
-        up |= (mask)((steps & e->test_steps[i]) != 0) << e->parent[i];
+    for (int i = 0; i < e->shifts; i++) up |= (steps & e->shift_steps[i]) >> e->distance[i];
+    for (int i = 0; i < e->tests; i++) up |= (mask)((steps & e->test_steps[i]) != 0) << e->parent[i];
     return up;
 }
 
 /* The steps that hang on a set of steps, but not on the step just before. */
-static inline mask far_children(const struct edges *e, mask steps) {
+static inline mask far_children(const struct edges *e, mask steps)
+{
     mask down = 0;
-    for (int i = 0; i < e->shifts; i++)
-        down |= (steps << e->distance[i]) & e->shift_steps[i];
-    for (int i = 0; i < e->tests; i++)
-        down |= -(steps >> e->parent[i] & 1) & e->test_steps[i];
+    for (int i = 0; i < e->shifts; i++) down |= (steps << e->distance[i]) & e->shift_steps[i];
+    for (int i = 0; i < e->tests; i++) down |= -(steps >> e->parent[i] & 1) & e->test_steps[i];
     return down;
 }
 
 /* Of some steps, those that lack nothing. */
-static inline mask fitting(const struct edges *e, mask steps, mask got) {
+static inline mask fitting(const struct edges *e, mask steps, mask got)
+{
     steps &= ~((~got & e->first) >> 1);
-    if (steps & e->branching)
-        steps &= ~far_parents(e, ~got);
+    if (steps & e->branching) steps &= ~far_parents(e, ~got);
     return steps;
 }
 
-static inline mask children(const struct edges *e, mask steps) {
+static inline mask children(const struct edges *e, mask steps)
+{
     mask down = (steps << 1) & e->first;
-    if (steps & e->branching)
-        down |= far_children(e, steps);
+    if (steps & e->branching) down |= far_children(e, steps);
     return down;
 }
 
@@ -173,7 +168,8 @@ struct labels {
     mask low[256], high[256];
 };
 
-static void find_labels(const struct pattern *p, struct labels *t) {
+static void find_labels(const struct pattern *p, struct labels *t)
+{
     memset(t, 0, sizeof *t);
     for (int s = 0; s < p->count; s++) {
         t->low[p->label[s] & 255] |= bit(s);
@@ -189,64 +185,61 @@ static inline mask labelled(const struct labels *t, unsigned label) { return t->
 enum shape { BROKEN, DEEP, FLAT, MIXED };
 
 /* Whether every parent stands before its node and every label is above 0, and whether most nodes hang on the node just before or on that one's parent. */
-static enum shape look(const uint16_t *parents, const uint16_t *labels, int n) {
+static enum shape look(const uint16_t *parents, const uint16_t *labels, int n)
+{
     uint16_t bad = parents[0] != 65535 || labels[0] == 0, deep = 0, flat = 0;
     for (int i = 1; i < n; i++) {
         uint16_t up = parents[i];
         bad |= (uint16_t)(up >= (uint16_t)i) | (uint16_t)(labels[i] == 0);
-        deep += up == (uint16_t)(i - 1);
-        flat += up == parents[i - 1];
+        deep = (uint16_t)(deep + (up == (uint16_t)(i - 1)));
+        flat = (uint16_t)(flat + (up == parents[i - 1]));
     }
-    if (bad)
-        return BROKEN;
+    if (bad) return BROKEN;
     return 4 * deep >= 3 * (n - 1) ? DEEP : 4 * flat >= 3 * (n - 1) ? FLAT : MIXED;
 }
 
 /* Document order, by climbing from the node before: fast where the branches are foreseen. */
-static int climbs(const uint16_t *parents, int n) {
+static int climbs(const uint16_t *parents, int n)
+{
     for (int i = 1; i < n; i++) {
         unsigned up = parents[i], at = (unsigned)i - 1;
-        while (up < at)
-            at = parents[at];
-        if (up != at)
-            return 0;
+        while (up < at) at = parents[at];
+        if (up != at) return 0;
     }
     return 1;
 }
 
 /* The same without a branch: the rows of each node, itself and as many after it as it has descendants, end within its parent's. */
-static int nests(const uint16_t *parents, int n) {
+static int nests(const uint16_t *parents, int n)
+{
     uint16_t size[NODES];
     unsigned bad = 0;
-    for (int i = 0; i < n; i++)
-        size[i] = 1;
-    for (int i = n - 1; i > 0; i--)
-        size[parents[i]] += size[i];
-    for (int i = 1; i < n; i++)
-        bad |= (unsigned)i + size[i] > parents[i] + (unsigned)size[parents[i]];
+    for (int i = 0; i < n; i++) size[i] = 1;
+    for (int i = n - 1; i > 0; i--) size[parents[i]] += size[i];
+    for (int i = 1; i < n; i++) bad |= (unsigned)i + size[i] > parents[i] + (unsigned)size[parents[i]];
     return !bad;
 }
 
 /* The shape, BROKEN where the document breaks its rules. */
-static enum shape check(const uint16_t *parents, const uint16_t *labels, int n) {
+static enum shape check(const uint16_t *parents, const uint16_t *labels, int n)
+{
     enum shape shape = look(parents, labels, n);
-    if (shape == BROKEN)
-        return BROKEN;
+    if (shape == BROKEN) return BROKEN;
     return (shape == MIXED ? nests(parents, n) : climbs(parents, n)) ? shape : BROKEN;
 }
 
 /* ---- answers ---- */
 
 struct scratch {
-    mask open[2 * NODES + 1];   /* the accumulators; the rest takes what is not wanted */
+    mask open[2 * NODES + 1]; /* the accumulators; the rest takes what is not wanted */
     mask fit[NODES];
     uint16_t answers[NODES + 1];
 };
 
 /* Both passes. Steps that fit at node i go to fit[stride * i]; with stride 2 the steps of whole placements go beside them. The count of the answers. */
 static inline __attribute__((always_inline)) int passes(const uint16_t *parents, const uint16_t *labels, int n, const struct edges *e, const struct labels *t,
-                                                                int out,
-                                                        mask *fit, struct scratch *r, int stride, int deep, int branching) {
+                                                        int out, mask *fit, struct scratch *r, int stride, int deep, int branching)
+{
     mask descendant = e->descendant, first = e->first, carry = 0;
     mask *open = r->open;
     memset(open, 0, (size_t)n * sizeof *open);
@@ -267,8 +260,7 @@ static inline __attribute__((always_inline)) int passes(const uint16_t *parents,
     mask m = fitting(e, labelled(t, labels[0]), open[0] | carry);
     fit[0] = m;
     m &= 1;
-    if (stride == 2)
-        fit[1] = m;
+    if (stride == 2) fit[1] = m;
     carry = open[0] = children(e, m) | (descendant & 1);
     open[2 * NODES] = 0;
     uint16_t *answers = r->answers;
@@ -284,8 +276,7 @@ static inline __attribute__((always_inline)) int passes(const uint16_t *parents,
             above = open[up];
         }
         m = fit[stride * i] & above;
-        if (stride == 2)
-            fit[2 * i + 1] = m;
+        if (stride == 2) fit[2 * i + 1] = m;
         carry = (branching ? children(e, m) : (m << 1) & first) | (above & descendant);
         open[i] = carry;
         answers[count] = (uint16_t)i;
@@ -294,10 +285,11 @@ static inline __attribute__((always_inline)) int passes(const uint16_t *parents,
     return count;
 }
 
-#define PASSES(name, stride, deep, branching)                                                                                                              \
-    static __attribute__((noinline)) int name(const uint16_t *parents, const uint16_t *labels, int n, const struct edges *e, const struct labels *t,       \
-                                              int out, mask *fit, struct scratch *r) {                                                                     \
-        return passes(parents, labels, n, e, t, out, fit, r, stride, deep, branching);                                                                     \
+#define PASSES(name, stride, deep, branching)                                                                                                                 \
+    static __attribute__((noinline)) int name(const uint16_t *parents, const uint16_t *labels, int n, const struct edges *e, const struct labels *t, int out, \
+                                              mask *fit, struct scratch *r)                                                                                   \
+    {                                                                                                                                                         \
+        return passes(parents, labels, n, e, t, out, fit, r, stride, deep, branching);                                                                        \
     }
 PASSES(answers_chain, 1, 0, 0)
 PASSES(answers_tree, 1, 0, 1)
@@ -309,19 +301,16 @@ PASSES(working_chain_deep, 2, 1, 0)
 PASSES(working_tree_deep, 2, 1, 1)
 
 int64_t hand_list_answers(const uint16_t *parents, size_t parents_len, const uint16_t *labels, size_t labels_len, const uint8_t *pattern, size_t pattern_len,
-                          uint16_t *list, size_t list_len, uint64_t *work, size_t work_len) {
+                          uint16_t *list, size_t list_len, uint64_t *work, size_t work_len)
+{
     struct pattern p;
     int refusal = read_pattern(pattern, pattern_len, &p);
-    if (refusal)
-        return -refusal;
-    if (parents_len != labels_len || parents_len < 1 || parents_len > NODES)
-        return -4;
+    if (refusal) return -refusal;
+    if (parents_len != labels_len || parents_len < 1 || parents_len > NODES) return -4;
     int n = (int)parents_len;
     enum shape shape = check(parents, labels, n);
-    if (shape == BROKEN)
-        return -4;
-    if (list_len < parents_len || work_len < 2 * parents_len)
-        return -5;
+    if (shape == BROKEN) return -4;
+    if (list_len < parents_len || work_len < 2 * parents_len) return -5;
     struct edges e;
     struct labels t;
     struct scratch r;
@@ -333,14 +322,12 @@ int64_t hand_list_answers(const uint16_t *parents, size_t parents_len, const uin
     return count;
 }
 
-int64_t hand_answers(const uint8_t *document, size_t document_len, const uint8_t *pattern, size_t pattern_len, uint8_t *room, size_t room_len) {
-    if (document_len < 3)
-        return -2;
-    if (document[0] != 1)
-        return -1;
+int64_t hand_answers(const uint8_t *document, size_t document_len, const uint8_t *pattern, size_t pattern_len, uint8_t *room, size_t room_len)
+{
+    if (document_len < 3) return -2;
+    if (document[0] != 1) return -1;
     unsigned l = get16(document + 1);
-    if (l + 3 != document_len || l < 4 || l > 4 * NODES || (l & 3) != 0)
-        return -2;
+    if (l + 3 != document_len || l < 4 || l > 4 * NODES || (l & 3) != 0) return -2;
     int n = (int)(l >> 2);
     uint16_t parents[NODES], labels[NODES];
     for (int i = 0; i < n; i++) {
@@ -348,14 +335,11 @@ int64_t hand_answers(const uint8_t *document, size_t document_len, const uint8_t
         labels[i] = (uint16_t)get16(document + 5 + 4 * i);
     }
     enum shape shape = check(parents, labels, n);
-    if (shape == BROKEN)
-        return -4;
+    if (shape == BROKEN) return -4;
     struct pattern p;
     int refusal = read_pattern(pattern, pattern_len, &p);
-    if (refusal)
-        return -refusal;
-    if (room_len < 2 * (size_t)n)
-        return -5;
+    if (refusal) return -refusal;
+    if (room_len < 2 * (size_t)n) return -5;
     struct edges e;
     struct labels t;
     struct scratch r;
@@ -363,15 +347,15 @@ int64_t hand_answers(const uint8_t *document, size_t document_len, const uint8_t
     find_labels(&p, &t);
     int count = e.branching ? (shape == DEEP ? answers_tree_deep : answers_tree)(parents, labels, n, &e, &t, p.out, r.fit, &r)
                             : (shape == DEEP ? answers_chain_deep : answers_chain)(parents, labels, n, &e, &t, p.out, r.fit, &r);
-    for (int i = 0; i < count; i++)
-        put16(room + 2 * i, r.answers[i]);
+    for (int i = 0; i < count; i++) put16(room + 2 * i, r.answers[i]);
     return count;
 }
 
 /* ---- containment ---- */
 
 /* The steps of one pattern that fit at each step of another, output at `at` and nowhere else. Whether the whole fits. */
-static int maps(const struct pattern *from, const struct pattern *into, int at, mask *fit) {
+static int maps(const struct pattern *from, const struct pattern *into, int at, mask *fit)
+{
     struct edges e;
     struct labels t;
     mask got[STEPS] = {0};
@@ -380,23 +364,21 @@ static int maps(const struct pattern *from, const struct pattern *into, int at, 
     mask not_out = ~bit(from->out), any = 0;
     for (int r = into->count - 1; r >= 0; r--) {
         mask m = labelled(&t, into->label[r]);
-        if (r != at)
-            m &= not_out;
+        if (r != at) m &= not_out;
         m = fitting(&e, m, got[r]);
         fit[r] = m;
         any |= m;
-        if (r == 0)
-            break;
+        if (r == 0) break;
         m |= got[r];
         got[into->parent[r]] |= into->axis[r] ? m & e.descendant : fit[r] | (m & e.descendant);
     }
-    if (from->axis[0])
-        return (int)(any & 1);
+    if (from->axis[0]) return (int)(any & 1);
     return !into->axis[0] && (fit[0] & 1);
 }
 
 /* Rows to columns. */
-static void turn(mask m[64]) {
+static void turn(mask m[64])
+{
     mask keep = 0x00000000FFFFFFFF;
     for (int j = 32; j; j >>= 1, keep ^= keep << j)
         for (int k = 0; k < 64; k = ((k | j) + 1) & ~j) {
@@ -407,12 +389,11 @@ static void turn(mask m[64]) {
 }
 
 /* The smallest mapping, given which steps fit where. */
-static void least(const struct pattern *from, const struct pattern *into, mask fit[64], uint8_t *to) {
+static void least(const struct pattern *from, const struct pattern *into, mask fit[64], uint8_t *to)
+{
     mask below[STEPS], beside[STEPS];
-    for (int r = 0; r < into->count; r++)
-        below[r] = beside[r] = 0;
-    for (int r = into->count; r < 64; r++)
-        fit[r] = 0;
+    for (int r = 0; r < into->count; r++) below[r] = beside[r] = 0;
+    for (int r = into->count; r < 64; r++) fit[r] = 0;
     for (int r = into->count - 1; r > 0; r--) {
         int up = into->parent[r];
         below[up] |= below[r] | bit(r);
@@ -427,7 +408,8 @@ static void least(const struct pattern *from, const struct pattern *into, mask f
 }
 
 /* The smallest label from 1 up in neither pattern. Among 1 to 191 there is always one. */
-static unsigned fresh(const struct pattern *a, const struct pattern *b) {
+static unsigned fresh(const struct pattern *a, const struct pattern *b)
+{
     mask used[4] = {1, 0, 0, 0};
     for (int s = 0; s < a->count; s++) {
         unsigned l = a->label[s] < 192 ? a->label[s] : 192;
@@ -438,19 +420,16 @@ static unsigned fresh(const struct pattern *a, const struct pattern *b) {
         used[l >> 6] |= bit(l & 63);
     }
     for (int w = 0;; w++)
-        if (~used[w])
-            return (unsigned)(64 * w + lowest(~used[w]));
+        if (~used[w]) return (unsigned)(64 * w + lowest(~used[w]));
 }
 
-int64_t hand_contained(const uint8_t *a, size_t a_len, const uint8_t *b, size_t b_len, uint8_t *room, size_t room_len) {
+int64_t hand_contained(const uint8_t *a, size_t a_len, const uint8_t *b, size_t b_len, uint8_t *room, size_t room_len)
+{
     struct pattern pa, pb;
     int refusal = read_pattern(a, a_len, &pa);
-    if (!refusal)
-        refusal = read_pattern(b, b_len, &pb);
-    if (refusal)
-        return -refusal;
-    if (room_len < WITNESS_ROOM)
-        return -5;
+    if (!refusal) refusal = read_pattern(b, b_len, &pb);
+    if (refusal) return -refusal;
+    if (room_len < WITNESS_ROOM) return -5;
     mask fit[64];
     if (maps(&pb, &pa, pa.out, fit)) {
         least(&pb, &pa, fit, room);
@@ -481,41 +460,35 @@ int64_t hand_contained(const uint8_t *a, size_t a_len, const uint8_t *b, size_t 
 /* ---- rewriting ---- */
 
 /* The steps from step 0 to the output step. */
-static int main_path(const struct pattern *p, uint8_t *path) {
+static int main_path(const struct pattern *p, uint8_t *path)
+{
     int count = 0;
     for (int s = p->out;; s = p->parent[s]) {
         path[STEPS - 1 - count++] = (uint8_t)s;
-        if (s == 0)
-            break;
+        if (s == 0) break;
     }
     memmove(path, path + STEPS - count, (size_t)count);
     return count;
 }
 
-int64_t hand_rewrite(const uint8_t *query, size_t query_len, const uint8_t *view, size_t view_len, uint8_t *room, size_t room_len) {
+int64_t hand_rewrite(const uint8_t *query, size_t query_len, const uint8_t *view, size_t view_len, uint8_t *room, size_t room_len)
+{
     struct pattern q, v, j;
     int refusal = read_pattern(query, query_len, &q);
-    if (!refusal)
-        refusal = read_pattern(view, view_len, &v);
-    if (!refusal && (q.count > REWRITE_STEPS || v.count > REWRITE_STEPS))
-        refusal = 8;
-    if (refusal)
-        return -refusal;
+    if (!refusal) refusal = read_pattern(view, view_len, &v);
+    if (!refusal && (q.count > REWRITE_STEPS || v.count > REWRITE_STEPS)) refusal = 8;
+    if (refusal) return -refusal;
     uint8_t qs[STEPS], vs[STEPS];
     int k = main_path(&v, vs);
-    if (main_path(&q, qs) < k)
-        return 0;
+    if (main_path(&q, qs) < k) return 0;
     /* two equal patterns have the same labels and axes along their main paths, and a mapping of one into the other keeps these in place */
     for (int i = 0; i < k; i++)
-        if (q.label[qs[i]] != v.label[vs[i]] || q.axis[qs[i]] != v.axis[vs[i]])
-            return 0;
+        if (q.label[qs[i]] != v.label[vs[i]] || q.axis[qs[i]] != v.axis[vs[i]]) return 0;
     int cut = qs[k - 1], end = cut + 1;
     mask fit[64];
     /* the query is contained in the join: the view goes into the query with its output on the cut, the compensation stays where it is */
-    if (!maps(&v, &q, cut, fit))
-        return 0;
-    while (end < q.count && q.parent[end] >= cut)
-        end++;
+    if (!maps(&v, &q, cut, fit)) return 0;
+    while (end < q.count && q.parent[end] >= cut) end++;
     int more = end - cut - 1;
     for (int s = 0; s <= v.out; s++) {
         j.parent[s] = v.parent[s];
@@ -534,11 +507,9 @@ int64_t hand_rewrite(const uint8_t *query, size_t query_len, const uint8_t *view
     }
     j.count = v.count + more;
     j.out = q.out - cut + v.out;
-    if (!maps(&q, &j, j.out, fit))
-        return 0;
+    if (!maps(&q, &j, j.out, fit)) return 0;
     size_t len = 4 + 4 * (size_t)(more + 1);
-    if (room_len < len)
-        return -5;
+    if (room_len < len) return -5;
     room[0] = 1;
     put16(room + 1, (unsigned)len - 3);
     room[3] = (uint8_t)(q.out - cut);

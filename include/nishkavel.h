@@ -64,16 +64,26 @@ enum nishkavel_refusal {
 static inline const char *nishkavel_refusal_text(int64_t result)
 {
     switch (result < 0 && result > -100 ? (int)-result : 0) {
-    case NISHKAVEL_REFUSED_VERSION: return "a packet does not begin with version 1";
-    case NISHKAVEL_REFUSED_LENGTH: return "a packet has fewer than 3 bytes, or its length field is not allowed or does not match the bytes that are there";
-    case NISHKAVEL_REFUSED_PATTERN: return "a pattern breaks the rules for patterns";
-    case NISHKAVEL_REFUSED_DOCUMENT: return "a document breaks the rules for documents";
-    case NISHKAVEL_REFUSED_ROOM: return "a room or a list is too short";
-    case NISHKAVEL_REFUSED_START: return "what is started or joined begins with axis descendant, or the start nodes are not ascending nodes of the document";
-    case NISHKAVEL_REFUSED_OTHER_LABEL: return "the compensation does not begin with the label of the view's output step";
-    case NISHKAVEL_REFUSED_TOO_LARGE: return "a join would pass 64 steps, or a query or a view for rewriting passes 32";
-    case NISHKAVEL_REFUSED_NO_LABEL: return "the two patterns leave no label for a witness";
-    default: return result < 0 ? "not a result of this library" : "no refusal";
+    case NISHKAVEL_REFUSED_VERSION:
+        return "a packet does not begin with version 1";
+    case NISHKAVEL_REFUSED_LENGTH:
+        return "a packet has fewer than 3 bytes, or its length field is not allowed or does not match the bytes that are there";
+    case NISHKAVEL_REFUSED_PATTERN:
+        return "a pattern breaks the rules for patterns";
+    case NISHKAVEL_REFUSED_DOCUMENT:
+        return "a document breaks the rules for documents";
+    case NISHKAVEL_REFUSED_ROOM:
+        return "a room or a list is too short";
+    case NISHKAVEL_REFUSED_START:
+        return "what is started or joined begins with axis descendant, or the start nodes are not ascending nodes of the document";
+    case NISHKAVEL_REFUSED_OTHER_LABEL:
+        return "the compensation does not begin with the label of the view's output step";
+    case NISHKAVEL_REFUSED_TOO_LARGE:
+        return "a join would pass 64 steps, or a query or a view for rewriting passes 32";
+    case NISHKAVEL_REFUSED_NO_LABEL:
+        return "the two patterns leave no label for a witness";
+    default:
+        return result < 0 ? "not a result of this library" : "no refusal";
     }
 }
 

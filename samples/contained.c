@@ -6,8 +6,7 @@ static int ask(const char *question, const uint8_t *a, size_t a_bytes, const uin
 {
     uint8_t room[NISHKAVEL_CONTAINED_BYTES];
     int64_t answer = nishkavel_contained(a, a_bytes, b, b_bytes, room, sizeof room);
-    if (answer < 0)
-        return refused("nishkavel_contained", answer);
+    if (answer < 0) return refused("nishkavel_contained", answer);
     printf("%s %s\n", question, answer ? "Yes." : "No.");
     if (answer) {
         /* A pattern packet of s steps has 4 + 4s bytes, so b has this many steps, each with a step of a in its byte. */
@@ -21,19 +20,16 @@ static int ask(const char *question, const uint8_t *a, size_t a_bytes, const uin
     /* The witness is a document packet like any other. */
     uint8_t answers[NISHKAVEL_ANSWER_BYTES(NISHKAVEL_MAX_NODES)];
     int64_t count = nishkavel_answers(room, (size_t)witness_bytes, a, a_bytes, answers, sizeof answers);
-    if (count < 0)
-        return refused("nishkavel_answers", count);
+    if (count < 0) return refused("nishkavel_answers", count);
     print_answers("the first there", answers, count);
     count = nishkavel_answers(room, (size_t)witness_bytes, b, b_bytes, answers, sizeof answers);
-    if (count < 0)
-        return refused("nishkavel_answers", count);
+    if (count < 0) return refused("nishkavel_answers", count);
     print_answers("the second there", answers, count);
     return 0;
 }
 
 int main(void)
 {
-    if (ask("Is every frame with a pose a frame?", frames_with_pose, sizeof frames_with_pose, frames, sizeof frames))
-        return 1;
+    if (ask("Is every frame with a pose a frame?", frames_with_pose, sizeof frames_with_pose, frames, sizeof frames)) return 1;
     return ask("Has every frame a pose?", frames, sizeof frames, frames_with_pose, sizeof frames_with_pose);
 }

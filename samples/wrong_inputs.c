@@ -9,8 +9,7 @@ static uint8_t room[NISHKAVEL_ANSWER_BYTES(NISHKAVEL_MAX_NODES)];
 static void tell(const char *what, int64_t result)
 {
     int kept = 1;
-    for (size_t k = 0; k < sizeof room; k++)
-        kept &= room[k] == 0xAA;
+    for (size_t k = 0; k < sizeof room; k++) kept &= room[k] == 0xAA;
     printf("%s: %d, and the room %s\n  %s\n", what, (int)result, kept ? "is as it was" : "was written to", nishkavel_refusal_text(result));
     memset(room, 0xAA, sizeof room);
 }
@@ -37,8 +36,7 @@ int main(void)
 
     static const uint8_t starts[] = {0, 6, 0, 3};
     static const uint8_t frame_with_pose[] = {1, 0, 9, 0, 255, 0, 0, 3, 0, 0, 0, 4};
-    tell("starts that do not ascend",
-         nishkavel_started(line, sizeof line, frame_with_pose, sizeof frame_with_pose, starts, sizeof starts, room, sizeof room));
+    tell("starts that do not ascend", nishkavel_started(line, sizeof line, frame_with_pose, sizeof frame_with_pose, starts, sizeof starts, room, sizeof room));
 
     static const uint8_t strip_with_pose[] = {1, 0, 9, 0, 255, 0, 0, 2, 0, 0, 0, 4};
     tell("a compensation for strips", nishkavel_join(frames, sizeof frames, strip_with_pose, sizeof strip_with_pose, room, sizeof room));

@@ -160,8 +160,9 @@ static void longest_output(void)
 /* Every way to cut a short right input off, and nothing at all. */
 static void every_cut(void)
 {
-    static const uint8_t line[] = {1, 0, 28, 255, 255, 0, 1, 0, 0, 0, 2, 0, 1, 0, 5, 0, 1, 0, 3, 0, 3, 0, 4, 0, 0, 0, 2, 0, 5, 0, 3,
-                                   1, 0, 9, 1, 255, 1, 0, 2, 0, 1, 0, 3, 1, 0, 13, 1, 255, 1, 0, 2, 0, 1, 0, 3, 1, 0, 0, 4};
+    static const uint8_t line[] = {1, 0, 28, 255, 255, 0, 1, 0, 0, 0, 2, 0, 1, 0, 5, 0, 1, 0, 3, 0, 3, 0, 4, 0, 0, 0, 2, 0, 5, 0, 3, /* the document */
+                                   1, 0, 9,  1,   255, 1, 0, 2, 0, 1, 0, 3,                                                          /* //strip//frame */
+                                   1, 0, 13, 1,   255, 1, 0, 2, 0, 1, 0, 3, 1, 0, 0, 4};                                             /* //strip//frame[pose] */
     memcpy(input, line, sizeof line);
     for (input_len = 0; input_len <= sizeof line; input_len++) compare("flight line seven cut off", 1);
     input_len = sizeof line;

@@ -13,8 +13,8 @@ void pack_pattern(const struct pattern *p, struct packet *to);
 
 /* Bytes as a packet, and a packet with a name. */
 void pack_bytes(struct packet *to, const uint8_t *bytes, size_t len);
-#define PACKET(name, ...) \
-    static struct packet name; \
+#define PACKET(name, ...)                                \
+    static struct packet name;                           \
     static const uint8_t name##_bytes[] = {__VA_ARGS__}; \
     pack_bytes(&name, name##_bytes, sizeof name##_bytes)
 

@@ -77,8 +77,8 @@ static void tie_join(const struct packet *document, const struct packet *view, c
     int64_t of_join = nishkavel_answers(document->bytes, document->len, joined.bytes, joined.len, direct, sizeof direct);
     if (count < 0) return;
     starts.len = 2 * (size_t)count;
-    int64_t of_started = nishkavel_started(document->bytes, document->len, compensation->bytes, compensation->len, starts.bytes, starts.len, started,
-                                           sizeof started);
+    int64_t of_started =
+        nishkavel_started(document->bytes, document->len, compensation->bytes, compensation->len, starts.bytes, starts.len, started, sizeof started);
     holds(of_join == of_started && of_join >= 0 && memcmp(direct, started, 2 * (size_t)of_join) == 0, "the join answers as the started compensation", document,
           view, compensation);
 }
@@ -156,14 +156,13 @@ static void tie_rewriting(const struct packet *document, const struct packet *qu
     take_pattern(query->bytes, query->len, &q);
     take_pattern(view->bytes, view->len, &v);
     holds(take_pattern(compensation->bytes, compensation->len, &e) == 0, "a compensation is a pattern", query, view, compensation);
-    holds(join_patterns(&v, &e, &j) == 0 && map_by_recursion(&q, &j, map) && map_by_recursion(&j, &q, map),
-          "the join with the view is equal to the query", query,
-          view, compensation);
+    holds(join_patterns(&v, &e, &j) == 0 && map_by_recursion(&q, &j, map) && map_by_recursion(&j, &q, map), "the join with the view is equal to the query",
+          query, view, compensation);
     int64_t count = nishkavel_answers(document->bytes, document->len, view->bytes, view->len, starts.bytes, sizeof starts.bytes);
     if (count < 0) return;
     int64_t of_query = nishkavel_answers(document->bytes, document->len, query->bytes, query->len, direct, sizeof direct);
-    int64_t of_started = nishkavel_started(document->bytes, document->len, compensation->bytes, compensation->len, starts.bytes, 2 * (size_t)count, started,
-                                           sizeof started);
+    int64_t of_started =
+        nishkavel_started(document->bytes, document->len, compensation->bytes, compensation->len, starts.bytes, 2 * (size_t)count, started, sizeof started);
     holds(of_query == of_started && memcmp(direct, started, 2 * (size_t)of_query) == 0, "the compensation gives the answers of the query", query, view,
           compensation);
 }
@@ -198,7 +197,7 @@ static void check_evaluator(void)
     if (chance(r, 50)) make_pattern(r, &c, between(r, 1, 5), &a);
     else make_met(r, &d, between(r, 1, 5), &a);
     allow_by_axis(&a, &d, allowed);
-    for (size_t i = 0; i < d.n && chance(r, 50); i++) allowed[i] = (uint8_t)chance(r, 50);
+    for (size_t i = 0; i < d.n && chance(r, 50); i++) allowed[i] = chance(r, 50);
     find_by_trial(&a, &d, allowed, &f);
     find_by_recursion(&a, &d, allowed, &g);
     begin("the evaluator");
@@ -211,9 +210,8 @@ static void check_evaluator(void)
         if (chance(r, 40)) alter(r, &c, &b);
     }
     int mapped = map_by_trial(&a, &b, map);
-    holds(mapped == map_by_recursion(&a, &b, other) && (!mapped || memcmp(map, other, b.n * sizeof map[0]) == 0),
-          "trial and recursion map the same", NULL, NULL,
-          NULL);
+    holds(mapped == map_by_recursion(&a, &b, other) && (!mapped || memcmp(map, other, b.n * sizeof map[0]) == 0), "trial and recursion map the same", NULL,
+          NULL, NULL);
     size_t node = write_witness(&a, fresh_label(&a, &b), &w);
     holds(answers_node(&a, &w, node), "a pattern answers its own witness", NULL, NULL, NULL);
     holds(mapped == answers_node(&b, &w, node), "a mapping exists where the witness is answered", NULL, NULL, NULL);
@@ -268,7 +266,7 @@ static void round_of_starts(const struct palette *c, const struct document *d, c
     static uint16_t starts[NODES + 2];
     uint8_t allowed[NODES];
     make_compensation(r, c, v, some_steps(), &e);
-    if (chance(r, 30)) make_met(r, d, some_steps(), &e), e.axis[0] = (uint8_t)chance(r, 10);
+    if (chance(r, 30)) make_met(r, d, some_steps(), &e), e.axis[0] = chance(r, 10);
     pack_pattern(&e, &pattern);
     allow_by_axis(v, d, allowed);
     find(v, d, allowed, &f);
@@ -637,8 +635,8 @@ static void edges(void)
 /* Each call has refused by each number that it may refuse by, and by no other. */
 static void refusals(void)
 {
-    static const char *const by[][2] = {{"nishkavel_answers", "12345"}, {"nishkavel_started", "123456"}, {"nishkavel_contained", "1235"},
-                                        {"nishkavel_join", "1235678"}, {"nishkavel_rewrite", "12358"}, {"nishkavel_read_document", "1245"},
+    static const char *const by[][2] = {{"nishkavel_answers", "12345"},      {"nishkavel_started", "123456"},      {"nishkavel_contained", "1235"},
+                                        {"nishkavel_join", "1235678"},       {"nishkavel_rewrite", "12358"},       {"nishkavel_read_document", "1245"},
                                         {"nishkavel_list_answers", "12345"}, {"nishkavel_list_started", "123456"}, {"nishkavel_copy_pattern", "1235"}};
     for (size_t k = 0; k < sizeof by / sizeof by[0]; k++) holds(refused_by(by[k][0], by[k][1]), "each refusal of the call was seen", NULL, NULL, NULL);
 }
@@ -666,8 +664,7 @@ int main(int argc, char **argv)
     refusals();
     holds(3 * handed_over >= rewritings, "a third of the rewritings are handed over", NULL, NULL, NULL);
     holds(4 * contained_pairs >= containments, "a quarter of the containments are contained", NULL, NULL, NULL);
-    printf("compare: %" PRIu64 " comparisons, %" PRIu64 " handed-over of %" PRIu64 " rewritings, seed %" PRIu64 ": all equal\n", comparisons,
-           handed_over, rewritings,
-           run_seed);
+    printf("compare: %" PRIu64 " comparisons, %" PRIu64 " handed-over of %" PRIu64 " rewritings, seed %" PRIu64 ": all equal\n", comparisons, handed_over,
+           rewritings, run_seed);
     return 0;
 }

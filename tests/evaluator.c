@@ -417,10 +417,7 @@ static int goes(const struct pattern *a, const struct pattern *b, size_t t, size
 }
 
 /* Where step 0 of b may go: anywhere for axis descendant, else to a's step 0 of axis child. */
-static int begins(const struct pattern *a, const struct pattern *b, size_t image)
-{
-    return b->axis[0] == DESCENDANT || (image == 0 && a->axis[0] == CHILD);
-}
+static int begins(const struct pattern *a, const struct pattern *b, size_t image) { return b->axis[0] == DESCENDANT || (image == 0 && a->axis[0] == CHILD); }
 
 /* Is the list a mapping of b into a? Labels, edges, the beginning, and output to output. */
 int is_mapping(const struct pattern *a, const struct pattern *b, const size_t *map)
@@ -782,8 +779,7 @@ int64_t expected_list_answers(const uint16_t *parents, size_t parents_len, const
 
 /* The pattern, the document, the starts, room in both lists; then answers and working entries for step 0 at a start node. */
 int64_t expected_list_started(const uint16_t *parents, size_t parents_len, const uint16_t *labels, size_t labels_len, const uint8_t *pattern,
-                              size_t pattern_len, const uint16_t *starts, size_t starts_len, uint16_t *list, size_t list_len, uint64_t *work,
-                              size_t work_len)
+                              size_t pattern_len, const uint16_t *starts, size_t starts_len, uint16_t *list, size_t list_len, uint64_t *work, size_t work_len)
 {
     static struct document d;
     static struct pattern p;

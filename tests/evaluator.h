@@ -10,13 +10,13 @@
 #include <stdint.h>
 
 enum {
-    NODES = 2048,        /* the most nodes of a document */
-    STEPS = 64,          /* the most steps of a pattern */
-    NODE_ROWS = 2200,    /* what a table can hold here: more than is allowed, so that too large ones can be made */
+    NODES = 2048,     /* the most nodes of a document */
+    STEPS = 64,       /* the most steps of a pattern */
+    NODE_ROWS = 2200, /* what a table can hold here: more than is allowed, so that too large ones can be made */
     STEP_ROWS = 200,
     DOCUMENT_ROOM = 3 + 4 * NODE_ROWS,
     PATTERN_ROOM = 4 + 4 * STEP_ROWS,
-    ASK_ROOM = 40000     /* more than the longest output of ask */
+    ASK_ROOM = 40000 /* more than the longest output of ask */
 };
 
 struct document {
@@ -82,8 +82,7 @@ int64_t expected_read_document(const uint8_t *document, size_t document_len, uin
 int64_t expected_list_answers(const uint16_t *parents, size_t parents_len, const uint16_t *labels, size_t labels_len, const uint8_t *pattern,
                               size_t pattern_len, uint16_t *list, size_t list_len, uint64_t *work, size_t work_len);
 int64_t expected_list_started(const uint16_t *parents, size_t parents_len, const uint16_t *labels, size_t labels_len, const uint8_t *pattern,
-                              size_t pattern_len, const uint16_t *starts, size_t starts_len, uint16_t *list, size_t list_len, uint64_t *work,
-                              size_t work_len);
+                              size_t pattern_len, const uint16_t *starts, size_t starts_len, uint16_t *list, size_t list_len, uint64_t *work, size_t work_len);
 int64_t expected_copy_pattern(const uint8_t *pattern, size_t pattern_len, uint8_t *room, size_t room_len);
 
 /* What the program ask has to print for an input; the length of the text. */

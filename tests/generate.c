@@ -29,7 +29,7 @@ size_t below(struct source *r, size_t bound) { return (size_t)((draw(r) >> 11) %
 size_t between(struct source *r, size_t low, size_t high) { return low + below(r, high - low + 1); }
 
 /* True so many times in a hundred. */
-int chance(struct source *r, unsigned percent) { return below(r, 100) < percent; }
+bool chance(struct source *r, unsigned percent) { return below(r, 100) < percent; }
 
 /* ---- labels ---- */
 

@@ -4,14 +4,18 @@
 
 #include "evaluator.h"
 
-struct source { uint64_t state; };
+#include <stdbool.h>
+
+struct source {
+    uint64_t state;
+};
 
 /* Numbers. */
 void sow(struct source *r, uint64_t seed);
 uint64_t draw(struct source *r);
 size_t below(struct source *r, size_t bound);
 size_t between(struct source *r, size_t low, size_t high);
-int chance(struct source *r, unsigned percent);
+bool chance(struct source *r, unsigned percent);
 
 /* A few labels to draw from, so that patterns meet nodes. */
 struct palette {

@@ -16,7 +16,7 @@ extern uint64_t run_seed, run_round;
 extern uint64_t comparisons;
 extern struct source run_source;
 
-/* Maps the memory and catches a touch of the closed pages. */
+/* Maps the memory and catches a touch of the closed pages, which ends the run with status 1, the call's name and the seed. */
 void open_slots(void);
 
 /* Begins a call by its name; then each slice is lent, `unit` bytes to an entry. NULL is lent for some slices without bytes. */

@@ -49,8 +49,13 @@ static size_t used_by(void (*call)(void))
 static const struct {
     const char *name;
     void (*call)(void);
-} calls[] = {{"answers", answers}, {"started", started}, {"contained", contained}, {"join", join}, {"rewrite", rewrite}, {"read_document", read_document},
-             {"copy_pattern", copy_pattern}, {"list_answers", list_answers}, {"list_started", list_started}};
+} calls[] = {
+    {"answers", answers},           {"started", started},
+    {"contained", contained},       {"join", join},
+    {"rewrite", rewrite},           {"read_document", read_document},
+    {"copy_pattern", copy_pattern}, {"list_answers", list_answers},
+    {"list_started", list_started},
+};
 
 enum { CALLS = sizeof calls / sizeof calls[0] };
 

@@ -204,8 +204,8 @@ static int check_cases(uint64_t count)
         if (!check_case(k, list, answers)) return 1;
         answered += answers > 0;
     }
-    printf("xpath: %" PRIu64 " comparisons with libxml2 %s, %" PRIu64 " with answers, seed %" PRIu64 ": all equal\n", count,
-           LIBXML_DOTTED_VERSION, answered, seed);
+    printf("xpath: %" PRIu64 " comparisons with libxml2 %s, %" PRIu64 " with answers, seed %" PRIu64 ": all equal\n", count, LIBXML_DOTTED_VERSION, answered,
+           seed);
     return 0;
 }
 
