@@ -15,20 +15,25 @@ ghost use Rattle.answers.specs.Working.{PlacedAt};
 use plan::Sets;
 use plan::TABLE;
 use tables::NODES;
+use tables::NodeNo;
 use tables::Pattern;
 use tables::STEPS;
+use tables::StepNo;
 
 // What the parent of node i allows; node 0 has no parent.
-fn above(allowed: &[u64; NODES], parents: &[u16], i: usize) -> u64
-    requires { ⌜ i < length (now parents) ⌝ }
-    requires { ⌜ (0 < i → getD (now parents) i 0 < 2048) ⌝ }
-    ensures none { λ r. ⌜ (i ≡ 0 → r ≡ 0) ⌝ }
-    ensures given { λ r. ⌜ (0 < i → r ≡ getD (now (allowed .entry)) (getD (now (parents .entry)) i 0) 0) ⌝ }
+fn above(allowed: &[u64; NODES], parents: &[u16], i: NodeNo) -> u64
+    requires { ⌜ i .0 < length (now parents) ⌝ }
+    requires { ⌜ (0 < i .0 → getD (now parents) (i .0) 0 < 2048) ⌝ }
+    ensures none { λ r. ⌜ (i .0 ≡ 0 → r ≡ 0) ⌝ }
+    ensures given { λ r. ⌜ (0 < i .0 → r ≡ getD (now (allowed .entry)) (getD (now (parents .entry)) (i .0) 0) 0) ⌝ }
 {
-    if i == 0 {
+    let row = i.0 as usize;
+    if row == 0 {
         return 0;
     }
-    allowed[parents[i] as usize]
+    let p = NodeNo(parents[row]);
+    let over = p.0 as usize;
+    allowed[over]
 }
 
 // What the children of a node may take, where `whole` stands at the node and `over` was allowed to it.
@@ -44,22 +49,23 @@ fn place_turn(
     table: &[u64; TABLE],
     sets: Sets,
     parents: &[u16],
-    i: usize,
+    i: NodeNo,
     work: &mut [u64],
     allowed: &mut [u64; NODES],
 ) -> u64
-    requires { ⌜ (i < length (now parents)) × (i < 2048) × (2 * i + 1 < length (now work)) × (length (now allowed) ≡ 2048) ⌝ }
-    requires { ⌜ (0 < i → getD (now parents) i 0 < i) ⌝ }
+    requires { ⌜ (i .0 < length (now parents)) × (i .0 < 2048) × (2 * i .0 + 1 < length (now work)) × (length (now allowed) ≡ 2048) ⌝ }
+    requires { ⌜ (0 < i .0 → getD (now parents) (i .0) 0 < i .0) ⌝ }
     ensures sizes { λ _. ⌜ (length (now (work .exit)) ≡ length (now (work .entry))) × (length (now (allowed .exit)) ≡ length (now (allowed .entry))) ⌝ }
     ensures turn { λ r. ⌜ ((A : Shape) (labels before : List ℕ) → ValidDocument (documentOf (now (parents .entry)) labels) → DownPlan A
-        (now (table .entry)) sets → Downward A (documentOf (now (parents .entry)) labels) (Marked before) i before (now (work .entry))
-        (now (allowed .entry)) → Downward A (documentOf (now (parents .entry)) labels) (Marked before) (i + 1) before (now (work .exit))
-        (now (allowed .exit)) × Marks r (PlacedAt A (documentOf (now (parents .entry)) labels) (Marked before) i)) ⌝ }
+        (now (table .entry)) sets → Downward A (documentOf (now (parents .entry)) labels) (Marked before) (i .0) before (now (work .entry))
+        (now (allowed .entry)) → Downward A (documentOf (now (parents .entry)) labels) (Marked before) (i .0 + 1) before (now (work .exit))
+        (now (allowed .exit)) × Marks r (PlacedAt A (documentOf (now (parents .entry)) labels) (Marked before) (i .0))) ⌝ }
 {
     let over = above(allowed, parents, i);
-    let whole = work[2 * i] & (over | work[2 * i + 1]);
-    work[2 * i + 1] = whole;
-    allowed[i] = pass_on(table, sets, whole, over);
+    let row = i.0 as usize;
+    let whole = work[2 * row] & (over | work[2 * row + 1]);
+    work[2 * row + 1] = whole;
+    allowed[row] = pass_on(table, sets, whole, over);
     whole
 }
 
@@ -67,15 +73,15 @@ fn place_turn(
 fn place_turns(
     table: &[u64; TABLE],
     sets: Sets,
-    output: usize,
+    output: StepNo,
     parents: &[u16],
     work: &mut [u64],
     list: &mut [u16],
 ) -> usize
-    requires { ⌜ (output < 64) × (length (now parents) ≤ 2048) × (2 * length (now parents) ≤ length (now work)) × (length (now parents) ≤ length (now list)) ⌝ }
+    requires { ⌜ (output .0 < 64) × (length (now parents) ≤ 2048) × (2 * length (now parents) ≤ length (now work)) × (length (now parents) ≤ length (now list)) ⌝ }
     requires { ⌜ ((i : ℕ) → 0 < i → i < length (now parents) → getD (now parents) i 0 < i) ⌝ }
     ensures { λ r. ⌜ ((A : Shape) (labels : List ℕ) → ValidDocument (documentOf (now (parents .entry)) labels) → DownPlan A (now (table .entry)) sets →
-        A .output ≡ output → Ready A (documentOf (now (parents .entry)) labels) (now (work .entry)) → Found A
+        A .output ≡ output .0 → Ready A (documentOf (now (parents .entry)) labels) (now (work .entry)) → Found A
         (documentOf (now (parents .entry)) labels) (Marked (now (work .entry))) (now (list .entry)) (now (work .entry)) r
         (now (list .exit)) (now (work .exit))) ⌝ }
 {
@@ -83,8 +89,9 @@ fn place_turns(
     let n = parents.len();
     let mut c = 0;
     for i in 0..n {
-        let whole = place_turn(table, sets, parents, i, work, &mut allowed);
-        c = marking::note(list, c, i, whole, output);
+        let node = NodeNo(i as u16);
+        let whole = place_turn(table, sets, parents, node, work, &mut allowed);
+        c = marking::note(list, c, node, whole, output);
     }
     c
 }
@@ -104,5 +111,5 @@ pub(crate) fn place_nodes(p: Pattern, parents: &[u16], work: &mut [u64], list: &
     let sets = plan::gather(p, &mut down, &mut up);
     let mut table = [0u64; TABLE];
     plan::spread(&down, p.count, &mut table);
-    place_turns(&table, sets, p.output.0 as usize, parents, work, list)
+    place_turns(&table, sets, p.output, parents, work, list)
 }

@@ -15,9 +15,10 @@ use plan::BYTE;
 use plan::Sets;
 use tables::Pattern;
 use tables::STEPS;
+use tables::StepNo;
 
 // The answer of a search for a step that finds none: no pattern has so many.
-pub const NONE: usize = 64;
+pub const NONE: u8 = 64;
 
 // What of f goes up along an edge of this axis to the steps of axis child: all of it along a child edge.
 fn along(axis: u8, f: u64) -> u64
@@ -55,15 +56,17 @@ fn fits(
 }
 
 // Step i gets what fits at it, f; its parent p gathers f below it, and g, what of f fits along a child edge.
-fn hand_up(fit: &mut [u64; STEPS], under: &mut [u64; STEPS], i: usize, p: usize, f: u64, g: u64)
-    requires { ⌜ (p < i) × (i < 64) × (length (now fit) ≡ 64) × (length (now under) ≡ 64) ⌝ }
+fn hand_up(fit: &mut [u64; STEPS], under: &mut [u64; STEPS], i: StepNo, p: StepNo, f: u64, g: u64)
+    requires { ⌜ (p .0 < i .0) × (i .0 < 64) × (length (now fit) ≡ 64) × (length (now under) ≡ 64) ⌝ }
     ensures sizes { λ _. ⌜ (length (now (fit .exit)) ≡ 64) × (length (now (under .exit)) ≡ 64) ⌝ }
-    ensures turn { λ _. ⌜ Turned i p f g (getD (now (under .entry)) i 0) (entries (now (fit .entry))) (entries (now (under .entry))) (entries (now (fit .exit)))
+    ensures turn { λ _. ⌜ Turned (i .0) (p .0) f g (getD (now (under .entry)) (i .0) 0) (entries (now (fit .entry))) (entries (now (under .entry))) (entries (now (fit .exit)))
         (entries (now (under .exit))) ⌝ }
 {
-    fit[i] = f;
-    fit[p] = fit[p] | g;
-    under[p] = under[p] | f | under[i];
+    let own = i.0 as usize;
+    let over = p.0 as usize;
+    fit[own] = f;
+    fit[over] = fit[over] | g;
+    under[over] = under[over] | f | under[own];
 }
 
 // Which steps of b fit at each step of a, in a table of zeros: from the last step of a to the first.
@@ -85,10 +88,10 @@ fn fit_turns(
         → FitTable B (shapeOf a) (now (fit .exit))) ⌝ }
 {
     let mut under = [0u64; STEPS];
-    let end = a.output.0 as usize;
     let mut i = a.count;
     while 1 < i {
         i -= 1;
+        let s = StepNo(i as u8);
         let l = a.label[i];
         let f = fits(
             low,
@@ -99,12 +102,12 @@ fn fit_turns(
             sets,
             output,
             l,
-            i == end,
+            s.0 == a.output.0,
             fit[i],
             under[i],
         );
         let g = along(a.axis[i], f);
-        hand_up(fit, &mut under, i, a.parent[i] as usize, f, g);
+        hand_up(fit, &mut under, s, a.parent[i], f, g);
     }
     fit[0] = fits(
         low,
@@ -115,7 +118,7 @@ fn fit_turns(
         sets,
         output,
         a.label[0],
-        0 == end,
+        0 == a.output.0,
         fit[0],
         under[0],
     );
@@ -137,7 +140,7 @@ pub fn fit_steps(a: Pattern, b: Pattern, fit: &mut [u64; STEPS])
     let mut forks = [0u64; STEPS];
     let mut later = [0u64; STEPS];
     let n = plan::group(&children, sets.next, b.count, &mut forks, &mut later);
-    let output = plan::one_bit(b.output.0 as usize);
+    let output = plan::one_bit(b.output);
     fit_turns(a, &low, &high, &forks, &later, n, sets, output, fit);
 }
 
@@ -156,23 +159,23 @@ fn first_steps(n: usize, own: u8, axis: u8) -> usize
 }
 
 // The smallest of n steps that may take step 0 of a pattern, whose axis is `axis`, where the first of them has axis `own`; NONE where there is none.
-pub fn first_image(n: usize, own: u8, axis: u8, fit: &[u64; STEPS]) -> usize
+pub fn first_image(n: usize, own: u8, axis: u8, fit: &[u64; STEPS]) -> StepNo
     requires { ⌜ (0 < n) × (n ≤ 64) ⌝ }
-    ensures { λ r. ⌜ Picks (λ j. ((j < n) × (axis ≡ 0 → (j ≡ 0) × (own ≡ 0))) × (bit (getD (now (fit .entry)) j 0) 0 ≡ 1)) r ⌝ }
+    ensures { λ r. ⌜ Picks (λ j. ((j < n) × (axis ≡ 0 → (j ≡ 0) × (own ≡ 0))) × (bit (getD (now (fit .entry)) j 0) 0 ≡ 1)) (r .0) ⌝ }
 {
     let m = first_steps(n, own, axis);
     for s in 0..m {
-        if plan::has_bit(fit[s], 0) {
-            return s;
+        if plan::has_bit(fit[s], StepNo(0)) {
+            return StepNo(s as u8);
         }
     }
-    NONE
+    StepNo(NONE)
 }
 
 // May a step that goes to step s, below q, be a step of this axis, where s hangs on p along an edge of axis `own`? And does it fit there?
-fn takes(x: u64, t: usize, axis: u8, q: usize, p: usize, own: u8) -> bool
-    requires { ⌜ t < 64 ⌝ }
-    ensures { λ r. ⌜ T r ↔ ((axis ≡ 0 → (p ≡ q) × (own ≡ 0)) × (bit x t ≡ 1)) ⌝ }
+fn takes(x: u64, t: StepNo, axis: u8, q: StepNo, p: StepNo, own: u8) -> bool
+    requires { ⌜ t .0 < 64 ⌝ }
+    ensures { λ r. ⌜ T r ↔ ((axis ≡ 0 → (p .0 ≡ q .0) × (own ≡ 0)) × (bit x (t .0) ≡ 1)) ⌝ }
 {
     if !plan::has_bit(x, t) {
         return false;
@@ -180,7 +183,7 @@ fn takes(x: u64, t: usize, axis: u8, q: usize, p: usize, own: u8) -> bool
     if axis != 0 {
         return true;
     }
-    if p != q {
+    if p.0 != q.0 {
         return false;
     }
     own == 0
@@ -193,20 +196,19 @@ pub fn next_image(
     axes: &[u8; STEPS],
     n: usize,
     fit: &[u64; STEPS],
-    t: usize,
+    t: StepNo,
     axis: u8,
-    q: usize,
-) -> usize
-    requires { ⌜ (n ≤ 64) × (t < 64) × (q < n) ⌝ }
-    requires { ⌜ ((j : ℕ) → 0 < j → j < n → getD (now parents) j 0 < 64) ⌝ }
-    ensures { λ r. ⌜ ((A : Shape) → StepLists A (now (parents .entry)) (now (axes .entry)) n → ((j : ℕ) × ImageAt A (now (fit .entry)) t axis q j) → Picks
-        (ImageAt A (now (fit .entry)) t axis q) r) ⌝ }
+    q: StepNo,
+) -> StepNo
+    requires { ⌜ (n ≤ 64) × (t .0 < 64) × (q .0 < n) ⌝ }
+    ensures { λ r. ⌜ ((A : Shape) → StepLists A (now (parents .entry)) (now (axes .entry)) n → ((j : ℕ) × ImageAt A (now (fit .entry)) (t .0) axis (q .0) j)
+        → Picks (ImageAt A (now (fit .entry)) (t .0) axis (q .0)) (r .0)) ⌝ }
 {
-    for s in q + 1..n {
-        let p = parents[s] as usize;
-        if takes(fit[s], t, axis, q, p, axes[s]) {
-            return s;
+    let at = q.0 as usize;
+    for s in at + 1..n {
+        if takes(fit[s], t, axis, q, StepNo(parents[s]), axes[s]) {
+            return StepNo(s as u8);
         }
     }
-    NONE
+    StepNo(NONE)
 }

@@ -14,8 +14,10 @@ ghost use Rattle.marking.specs.Entries.{HandedUp, Fitted, Marked, Noted}
 use plan::BYTE;
 use plan::Sets;
 use plan::TABLE;
+use tables::NodeNo;
 use tables::Pattern;
 use tables::STEPS;
+use tables::StepNo;
 
 // Zeros in the first m entries.
 fn clear(work: &mut [u64], m: usize)
@@ -28,14 +30,16 @@ fn clear(work: &mut [u64], m: usize)
 }
 
 // Node i gets its first entry and the seed; its parent p gathers what fits at i and below it.
-fn hand_up(work: &mut [u64], i: usize, p: usize, fit: u64, below: u64, seed: u64)
-    requires { ⌜ (p < i) × (i < 2048) × (2 * i + 1 < length (now work)) ⌝ }
-    ensures { λ _. ⌜ HandedUp (now (work .entry)) i p fit below seed (now (work .exit)) ⌝ }
+fn hand_up(work: &mut [u64], i: NodeNo, p: NodeNo, fit: u64, below: u64, seed: u64)
+    requires { ⌜ (p .0 < i .0) × (2 * i .0 + 1 < length (now work)) ⌝ }
+    ensures { λ _. ⌜ HandedUp (now (work .entry)) (i .0) (p .0) fit below seed (now (work .exit)) ⌝ }
 {
-    work[2 * i] = fit;
-    work[2 * i + 1] = seed;
-    work[2 * p] = work[2 * p] | fit;
-    work[2 * p + 1] = work[2 * p + 1] | fit | below;
+    let own = 2 * (i.0 as usize);
+    let over = 2 * (p.0 as usize);
+    work[own] = fit;
+    work[own + 1] = seed;
+    work[over] = work[over] | fit;
+    work[over + 1] = work[over + 1] | fit | below;
 }
 
 // Is the list strictly ascending, with every entry below n?
@@ -45,7 +49,8 @@ pub fn starts_right(starts: &[u16], n: usize) -> bool
     let m = starts.len();
     let mut least: usize = 0;
     for k in 0..m {
-        let x = starts[k] as usize;
+        let start = NodeNo(starts[k]);
+        let x = start.0 as usize;
         if x < least || n <= x {
             return false;
         }
@@ -63,8 +68,9 @@ pub fn mark_starts(starts: &[u16], work: &mut [u64])
 {
     let m = starts.len();
     for k in 0..m {
-        let node = starts[k] as usize;
-        work[2 * node + 1] = 1;
+        let node = NodeNo(starts[k]);
+        let own = 2 * (node.0 as usize);
+        work[own + 1] = 1;
     }
 }
 
@@ -90,7 +96,7 @@ fn fit_turns(
         i -= 1;
         let below = work[2 * i + 1];
         let fit = plan::fits(low, high, table, sets, labels[i], work[2 * i], below);
-        hand_up(work, i, parents[i] as usize, fit, below, seed);
+        hand_up(work, NodeNo(i as u16), NodeNo(parents[i]), fit, below, seed);
     }
     work[0] = plan::fits(low, high, table, sets, labels[0], work[0], work[1]);
     work[1] = seed;
@@ -116,12 +122,12 @@ pub fn fit_nodes(p: Pattern, parents: &[u16], labels: &[u16], seed: u64, work: &
 }
 
 // Node i in the answer list: put at place c and counted where it is an answer.
-pub fn note(list: &mut [u16], c: usize, i: usize, whole: u64, output: usize) -> usize
-    requires { ⌜ (c < length (now list)) × (c < 65536) × (i < 65536) × (output < 64) ⌝ }
-    ensures { λ r. ⌜ Noted whole output i c (now (list .entry)) r (now (list .exit)) ⌝ }
+pub fn note(list: &mut [u16], c: usize, i: NodeNo, whole: u64, output: StepNo) -> usize
+    requires { ⌜ (c < length (now list)) × (c < 65536) × (output .0 < 64) ⌝ }
+    ensures { λ r. ⌜ Noted whole (output .0) (i .0) c (now (list .entry)) r (now (list .exit)) ⌝ }
 {
     if plan::has_bit(whole, output) {
-        list[c] = i as u16;
+        list[c] = i.0;
         return c + 1;
     }
     c

@@ -40,4 +40,4 @@ returns-2 c = let m = c .before in nothing refl (λ j x. m .loop .inv .1 j (omeg
 
 pub first-image-spec : {M : Type 1} → statement M
 first-image-spec = tie.close (tie.spec Inv-loop μ-loop (λ c κs. c .pre .0) loop-holds (λ c. record { fits = omega (arith, small c) }) (λ c. small c)
-    (λ c κs. omega arith) returns (λ c. omega arith) (λ c. omega arith) loop-again returns-2)
+    (λ c κs. omega arith) (λ c. omega (arith, small (c .before .before .before))) returns (λ c. omega arith) (λ c. omega arith) loop-again returns-2)

@@ -6,6 +6,7 @@ use native.Mathlib.Omega.{arith}
 use borrow.Author.Needs.{needs}
 use lib.Dec.{eqb}
 use lib.ListN.{length, getD}
+use Rattle.tables.specs.Column.{stepNo}
 use Rattle.tables.specs.Pattern.{Shape, shapeOf, rowsOf}
 use Rattle.tables.proofs.MarkTables.{zeros-at}
 use Rattle.tables.proofs.Rules.{shape-ordered}
@@ -20,13 +21,13 @@ use Rattle.mappings.proofs.fit_turns.Statement.{statement}
 use Rattle.mappings.proofs.fit_turns.Tie as tie
 
 abbrev Inv-loop : tie.InvT-loop
-Inv-loop low high forks later n sets output fit₀ a under₀ end i₀ fit under i =
+Inv-loop low high forks later n sets output fit₀ a under₀ i₀ fit under i =
     (1 ≤ i) × (i ≤ a .count) × (length fit ≡ 64) × (length under ≡ 64)
     × ((B : Shape) → GroupPlan B low high forks later n sets → output ≡ 2 ^ B .output → Risen (rowsOf (shapeOf a)) (FitsIn B (shapeOf a)) i (entries fit)
     (entries under))
 
 abbrev μ-loop : tie.MeasureT-loop
-μ-loop low high forks later n sets output fit₀ a under₀ end i₀ fit under i = i
+μ-loop low high forks later n sets output fit₀ a under₀ i₀ fit under i = i
 
 loop-holds : tie.Need-loop-holds Inv-loop μ-loop
 loop-holds c =
@@ -39,23 +40,22 @@ loop-holds c =
     )
 
 -- a step's parent comes before it
-up : (c : tie.After-hand-up-arg2 Inv-loop μ-loop) → getD (c .before .before .before .before .before .before .before .before .before .before .args .t1 .parent)
-    (c .before .before .before .before .before .before .before .before .before .loop .i - 1) 0 < c .before .before .before .before .before .before .before
-    .before .before .loop .i - 1
+up : (c : tie.After-hand-up-arg2 Inv-loop μ-loop) → let m = c .before .before .before .before .before .before .before .before .before .before in getD
+    (m .before .args .t1 .parent) (m .loop .i - 1) (stepNo 0) .0 < m .loop .i - 1
 up c =
-    let m = c .before .before .before .before .before .before .before .before .before in
+    let m = c .before .before .before .before .before .before .before .before .before .before in
     parent-lt (shape-ordered (m .before .pre .0)) (m .loop .i - 1) (omega arith) (omega arith)
 
 hand-up-requires : tie.Need-hand-up-requires Inv-loop μ-loop
 hand-up-requires c κs =
-    let m = c .before .before .before .before .before .before .before .before .before in
+    let m = c .before .before .before .before .before .before .before .before .before .before in
     (up c, omega (arith, m .before .pre .0 .few), m .loop .inv .2, m .loop .inv .3)
 
 loop-again : tie.Need-loop-again Inv-loop μ-loop
 loop-again c =
-    let m = c .before .before .before .before .before .before .before .before .before .before in
+    let m = c .before .before .before .before .before .before .before .before .before .before .before in
     let s = m .before in let v = s .pre .0 in
-    let k : 1 < m .loop .i = c .before .before .before .before .before .before .before .before .before .loop-test .taken in
+    let k : 1 < m .loop .i = c .before .before .before .before .before .before .before .before .before .before .loop-test .taken in
     let i : ℕ = m .loop .i - 1 in let l : i < s .args .t1 .count = omega arith in
     let z : suc i ≡ m .loop .i = omega arith in
     let o = tells-eq i (s .args .t1 .output .0) in (
@@ -85,7 +85,7 @@ returns c = λ B p e.
     (omega (arith, m .loop .inv .2))
 
 pub fit-turns-spec : {M : Type 1} → statement M
-fit-turns-spec = tie.close (tie.spec Inv-loop μ-loop (λ c. search needs) loop-holds (λ c. omega arith) (λ c. omega arith) (λ c. omega arith)
-    (λ c. omega arith) (λ c. omega arith) (λ c. omega arith) (λ c. omega arith) (λ c κs. c .before .before .before .before .pre .1 .0)
-    (λ c. omega arith) (λ c κs. tt) (λ c. omega arith) (λ c. record { fits = omega (arith, up c) }) hand-up-requires (λ c. omega arith) loop-again
-    (λ c. omega arith) (λ c. omega arith) (λ c. omega arith) (λ c κs. c .before .before .before .before .pre .1 .0) (λ c. omega arith) returns)
+fit-turns-spec = tie.close (tie.spec Inv-loop μ-loop loop-holds (λ c. omega arith) (λ c. omega (arith, c .before .before .pre .0 .few)) (λ c. omega arith)
+    (λ c. omega arith) (λ c. omega arith) (λ c. omega arith) (λ c. omega arith) (λ c. omega arith)
+    (λ c κs. c .before .before .before .before .before .pre .1 .0) (λ c. omega arith) (λ c κs. tt) (λ c. omega arith) hand-up-requires (λ c. omega arith)
+    loop-again (λ c. omega arith) (λ c. omega arith) (λ c. omega arith) (λ c κs. c .before .before .before .before .pre .1 .0) (λ c. omega arith) returns)

@@ -9,16 +9,13 @@ use Rattle.mappings.proofs.next_image.Statement.{statement}
 use Rattle.mappings.proofs.next_image.Tie as tie
 
 abbrev Inv-loop : tie.InvT-loop
-Inv-loop parents axes n fit t axis q s₀ s = (q < s) × (s ≤ n) × ((A : Shape) → StepLists A parents axes n → Sought A fit t axis q s)
+Inv-loop parents axes n fit t axis q at s₀ s = (at < s) × (s ≤ n) × ((A : Shape) → StepLists A parents axes n → Sought A fit (t .0) axis at s)
 
 abbrev μ-loop : tie.MeasureT-loop
-μ-loop parents axes n fit t axis q s₀ s = n - s
+μ-loop parents axes n fit t axis q at s₀ s = n - s
 
 loop-holds : tie.Need-loop-holds Inv-loop μ-loop
 loop-holds c = (omega arith, omega arith, λ A l. sought-start A _ _ _ _)
-
-cast-p : tie.Need-cast-p Inv-loop μ-loop
-cast-p c = let m = c .before .before in omega (arith, m .before .pre .1 (m .loop .s) (omega arith) (omega arith))
 
 returns : tie.Need-returns Inv-loop μ-loop
 returns c A l w =
@@ -41,5 +38,5 @@ returns-2 : tie.Need-returns-2 Inv-loop μ-loop
 returns-2 c A l w = let m = c .before in sought-end A _ _ _ _ (l .valid) (m .loop .s) (m .loop .inv .2 A l) (omega (arith, l .count))
 
 pub next-image-spec : {M : Type 1} → statement M
-next-image-spec = tie.close (tie.spec Inv-loop μ-loop (λ c. omega arith) loop-holds (λ c. omega arith) cast-p (λ c. omega arith) (λ c. omega arith)
-    (λ c. omega arith) (λ c κs. omega arith) returns (λ c. omega arith) (λ c. omega arith) loop-again returns-2)
+next-image-spec = tie.close (tie.spec Inv-loop μ-loop (λ c. omega arith) (λ c. omega arith) loop-holds (λ c. omega arith) (λ c. omega arith)
+    (λ c. omega arith) (λ c. omega arith) (λ c κs. omega arith) (λ c. omega arith) returns (λ c. omega arith) (λ c. omega arith) loop-again returns-2)

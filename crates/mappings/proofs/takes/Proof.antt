@@ -16,9 +16,12 @@ returns-3 c = (λ z. absurd z, λ w. c .if3 .taken (w .0 (omega arith) .0))
 
 returns-4 : tie.Need-returns-4
 returns-4 c =
-    let h = c .before .before .before .has-bit in
-    let t = tells-eq (c .before .before .before .before .args .own) 0 in
-    (λ z. (λ e. (c .if3 .left, t .says z), h .ensures .0 (passed (h .result) (c .before .before .if1 .left))), λ w. t .test (w .0 (omega arith) .1))
+    let h = c .before .before .before .before .before .has-bit in
+    let t = tells-eq (c .before .before .before .before .before .before .args .own) 0 in (
+      λ z. (λ e. (c .if3 .left, t .says z), h .ensures .0 (passed (h .result) (c .before .before .before .before .if1 .left))),
+      λ w. t .test
+          (w .0 (omega arith) .1),
+    )
 
 pub takes-spec : {M : Type 1} → statement M
 takes-spec = tie.close (tie.spec (λ c κs. search needs) returns returns-2 returns-3 returns-4)

@@ -34,15 +34,12 @@ shared-slice-read-fits c = omega (arith, c .before .before .before .before .befo
 slice-read-fits : tie.Need-slice-read-fits Inv-loop μ-loop
 slice-read-fits c = omega (arith, c .before .before .before .before .before .before .before .before .pre .1 .0, c .before .before .before .before .loop .inv .2)
 
-cast-hand-up : tie.Need-cast-hand-up Inv-loop μ-loop
-cast-hand-up c = omega (arith, c .shared-slice-known4 .given (c .before .before .before .before .before .before .before .loop .i - 1))
-
 hand-up-requires : tie.Need-hand-up-requires Inv-loop μ-loop
 hand-up-requires c κs =
     let m = c .before .before .before .before .before .before .before in
     let s = m .before .before .before .before in let i : ℕ = m .loop .i - 1 in
     let l : i < length (now (s .args .parents)) = omega arith in
-    (parent-lt (document-ordered (s .pre .0)) i (omega arith) l, omega (arith, s .pre .0 .few), omega (arith, s .pre .1 .0, m .loop .inv .2))
+    (parent-lt (document-ordered (s .pre .0)) i (omega arith) l, omega (arith, s .pre .1 .0, m .loop .inv .2))
 
 loop-again : tie.Need-loop-again Inv-loop μ-loop
 loop-again c =
@@ -84,8 +81,9 @@ returns c =
 
 pub fit-turns-spec : {M : Type 1} → statement M
 fit-turns-spec = tie.close (tie.spec Inv-loop μ-loop loop-holds (λ c. omega arith) (λ c. omega arith) (λ c. omega arith) (λ c. omega arith)
-    slice-read-below (λ c. omega arith) shared-slice-read-fits (λ c. omega arith) (λ c. omega arith) slice-read-fits (λ c κs. tt) (λ c. omega arith)
-    (λ c. omega arith) cast-hand-up hand-up-requires (λ c. omega arith) loop-again shared-slice-read-fits-2
+    slice-read-below (λ c. omega arith) shared-slice-read-fits (λ c. omega arith) (λ c. omega arith) slice-read-fits (λ c κs. tt)
+    (λ c. omega (arith, c .before .before .before .before .before .before .before .before .before .before .pre .0 .few)) (λ c. omega arith)
+    (λ c. omega arith) hand-up-requires (λ c. omega arith) loop-again shared-slice-read-fits-2
     (λ c. omega (arith, room (c .before .before .before))) (λ c. room (c .before .before .before .before)) (λ c κs. tt)
     (λ c. omega (arith, room (c .before .before .before .before .before))) (λ c. simp length-set (room (c .before .before .before .before .before)))
     same-length returns)

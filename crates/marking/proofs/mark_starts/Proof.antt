@@ -31,7 +31,7 @@ loop-holds c = (omega arith, marked-start _ _)
 
 loop-again : tie.Need-loop-again Inv-loop μ-loop
 loop-again c =
-    let l = c .before .before in
+    let l = c .before .before .before in
     (omega arith, rw (add-one (l .loop .k)) (marked-more _ _ (l .loop .k) (l .loop .work) (l .loop .inv .1) (room l (l .loop .k) (omega arith))))
 
 returns : tie.Need-returns Inv-loop μ-loop
@@ -43,7 +43,7 @@ returns c =
 
 pub mark-starts-spec : {M : Type 1} → statement M
 mark-starts-spec = tie.close (tie.spec Inv-loop μ-loop loop-holds (λ c. omega arith) (λ c. omega arith)
-    (λ c. slots _ (c .shared-slice-known .given _) .0) (λ c. slots _ (c .shared-slice-known .given _) .1)
-    (λ c. slots _ (c .shared-slice-known .given _) .2) (λ c. slots _ (c .shared-slice-known .given _) .3)
-    (λ c. room (c .before .before) _ (omega arith)) (λ c. omega arith) (λ c. omega arith) loop-again (λ c. c .before .loop .inv .1 .same-length)
+    (λ c. slots _ (c .before .shared-slice-known .given _) .0) (λ c. slots _ (c .before .shared-slice-known .given _) .1)
+    (λ c. slots _ (c .before .shared-slice-known .given _) .2) (λ c. slots _ (c .before .shared-slice-known .given _) .3)
+    (λ c. room (c .before .before .before) _ (omega arith)) (λ c. omega arith) (λ c. omega arith) loop-again (λ c. c .before .loop .inv .1 .same-length)
     returns)

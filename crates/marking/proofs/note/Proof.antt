@@ -11,5 +11,4 @@ returns-2 : tie.Need-returns-2
 returns-2 c = record { put = λ b. absurd (rw (c .if1 .left) at (c .before .has-bit .ensures .1 b)); skip = λ h. (refl, refl) }
 
 pub note-spec : {M : Type 1} → statement M
-note-spec = tie.close (tie.spec (λ c κs. search needs) (λ c. search needs) (λ c. search needs) (λ c. search needs) (λ c. search needs)
-    (λ c. search needs) returns returns-2)
+note-spec = tie.close (tie.spec (λ c κs. search needs) (λ c. search needs) (λ c. search needs) (λ c. search needs) (λ c. search needs) returns returns-2)

@@ -22,7 +22,7 @@ loop-holds c = (omega arith, ascends-start _ _)
 
 returns : tie.Need-returns Inv-loop μ-loop
 returns c =
-    let l = c .before .before .before in let x = getD (now (l .before .args .starts)) (l .loop .k) 0 in
+    let l = c .before .before .before .before in let x = getD (now (l .before .args .starts)) (l .loop .k) 0 in
     λ d e. (
       λ t. absurd t,
       λ w. ⊎-elim (λ q. ascends-low _ _ (l .loop .k) (l .loop .least) (l .loop .inv .1) (q .taken) (omega arith) (w .ascending))
@@ -31,11 +31,11 @@ returns c =
     )
 
 add-least : tie.Need-add-least Inv-loop μ-loop
-add-least c = let l = c .before .before .before .before in omega (arith, c .before .before .shared-slice-known .given (l .loop .k))
+add-least c = let l = c .before .before .before .before .before in omega (arith, c .before .before .before .shared-slice-known .given (l .loop .k))
 
 loop-again : tie.Need-loop-again Inv-loop μ-loop
 loop-again c =
-    let l = c .before .before .before .before in let xs = now (l .before .args .starts) in
+    let l = c .before .before .before .before .before in let xs = now (l .before .args .starts) in
     let k = l .loop .k in
     let r : Ascends xs (l .before .args .n) (suc k) (suc (getD xs k 0)) = ascends-more _ _ k (l .loop .least) (l .loop .inv .1) (omega arith)
     (leb-false (l .before .args .n) (getD xs k 0) (c .if2 .left)) in
@@ -51,5 +51,6 @@ returns-2 c =
 
 pub starts-right-spec : {M : Type 1} → statement M
 starts-right-spec = tie.close (tie.spec Inv-loop μ-loop loop-holds (λ c. omega arith) (λ c. omega arith)
-    (λ c. omega (arith, c .shared-slice-known .given (c .before .before .loop .k))) returns add-least (λ c. omega arith) (λ c. omega arith) loop-again
+    (λ c. omega (arith, c .before .shared-slice-known .given (c .before .before .before .loop .k))) returns add-least (λ c. omega arith) (λ c. omega arith)
+    loop-again
     returns-2)

@@ -10,13 +10,13 @@ use Rattle.answers.proofs.standing.place_nodes.Tie as tie
 
 place-turns-requires : tie.Need-place-turns-requires
 place-turns-requires c κs =
-    let s = c .before .before .before .before .before .before .before .before .before .before .before .before .before in
+    let s = c .before .before .before .before .before .before .before .before .before .before .before .before in
     let r = s .pre .1 .0 in
     ((omega (arith, s .pre .0 .output, s .pre .0 .few), r .0, r .1, r .2), s .pre .1 .1)
 
 returns : tie.Need-returns
 returns c =
-    let k = c .before .before .before .before .before .before .before .before .before in
+    let k = c .before .before .before .before .before .before .before .before in
     let g = k .before .before .before in let s = g .before .before .before .before .before .before in
     let A = shapeOf (s .args .p) in
     λ labels v r. c .before .before .before .before .place-turns .ensures A labels v
@@ -26,5 +26,5 @@ returns c =
     }) refl r
 
 pub place-nodes-spec : {M : Type 1} → statement M
-place-nodes-spec = tie.close (tie.spec (λ c κs. search needs) (λ c κs. search needs) (λ c. search needs) place-turns-requires (λ c. search needs)
+place-nodes-spec = tie.close (tie.spec (λ c κs. search needs) (λ c κs. search needs) place-turns-requires (λ c. search needs)
     (λ c. search needs) returns)

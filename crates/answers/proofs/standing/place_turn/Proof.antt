@@ -14,15 +14,15 @@ above-requires c κs = let s = c .before .before .before in (s .pre .0 .0, λ h.
 
 returns : tie.Need-returns
 returns c =
-    let s = c .before .before .before .before .before .before .before in
-    let a = c .before .before .before .above .ensures in (
+    let s = c .before .before .before .before .before .before .before .before in
+    let a = c .before .before .before .before .above .ensures in (
       (simp length-set, simp length-set),
       λ A labels before v k u. turned A (k .sets-of .valid) (documentOf (now (s .args .parents)) labels)
-          (Marked before) (s .args .i) _ _ before _ _ (s .pre .0 .0) (s .pre .1) (s .pre .0 .2) (omega (arith, s .pre .0 .1, s .pre .0 .3)) (a .0) (a .1)
+          (Marked before) (s .args .i .0) _ _ before _ _ (s .pre .0 .0) (s .pre .1) (s .pre .0 .2) (omega (arith, s .pre .0 .1, s .pre .0 .3)) (a .0) (a .1)
           (c .pass-on .ensures A k) u,
     )
 
 pub place-turn-spec : {M : Type 1} → statement M
-place-turn-spec = tie.close (tie.spec above-requires (λ c. search needs) (λ c. search needs) (λ c. search needs) (λ c. search needs)
+place-turn-spec = tie.close (tie.spec above-requires (λ c. search needs) (λ c. search needs) (λ c. search needs) (λ c. search needs) (λ c. search needs)
     (λ c. search needs) (λ c. search needs) (λ c. search needs) (λ c. search needs) (λ c. search needs) (λ c. search needs) (λ c. search needs)
     (λ c κs. search needs) (λ c. search needs) (λ c. search needs) (λ c. search needs) returns)

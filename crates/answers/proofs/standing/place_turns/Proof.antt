@@ -17,7 +17,7 @@ use Rattle.answers.proofs.standing.place_turns.Tie as tie
 abbrev Inv-loop : tie.InvT-loop
 Inv-loop table sets output parents work₀ list₀ allowed₀ n c₀ i₀ work list allowed c i =
     (i ≤ n) × (length allowed ≡ 2048) × (length work ≡ length work₀) × (length list ≡ length list₀) × (c ≤ i)
-    × ((A : Shape) (labels : List ℕ) → ValidDocument (documentOf parents labels) → DownPlan A table sets → A .output ≡ output →
+    × ((A : Shape) (labels : List ℕ) → ValidDocument (documentOf parents labels) → DownPlan A table sets → A .output ≡ output .0 →
     Ready A (documentOf parents labels) work₀
     → Downward A (documentOf parents labels) (Marked work₀) i work₀ work allowed × Listed A
     (documentOf parents labels) (Marked work₀) i c list₀ list)
@@ -47,7 +47,6 @@ note-requires c κs =
     let s = m .before .before .before .before in (
       omega (arith, s .pre .0 .3, m .loop .inv .3, m .loop .inv .4),
       omega (arith, s .pre .0 .1, m .loop .inv .4),
-      omega (arith, s .pre .0 .1),
       omega (arith, s .pre .0 .0),
     )
 
@@ -79,5 +78,6 @@ returns c =
     listed-found A _ (Marked (now (s .args .work))) (k .sets-of .valid) _ _ _ _ _ _ (u .1) (u .0)
 
 pub place-turns-spec : {M : Type 1} → statement M
-place-turns-spec = tie.close (tie.spec Inv-loop μ-loop loop-holds place-turn-requires note-requires (λ c. omega arith) (λ c. omega arith) loop-again
+place-turns-spec = tie.close (tie.spec Inv-loop μ-loop loop-holds (λ c. omega (arith, c .before .before .before .before .before .pre .0 .1))
+    place-turn-requires note-requires (λ c. omega arith) (λ c. omega arith) loop-again
     (λ c. c .before .loop .inv .2) (λ c. c .before .loop .inv .3) returns)
