@@ -51,7 +51,7 @@ module _ (A B : Pattern) (parents₀ labels₀ : List ℕ) where
       = ap (take m) (x .label-list) ∙ take-at (witnessOf (shapeOf A) (x .label) .labels) (drop m labels₀) m
       (labels-length (shapeOf A) (x .label) (axes va) n (omega arith) ∙ sym (x .count)) in
       let d : witnessOf (shapeOf A) (x .label) ≡ frontOf m parents labels = λ k. documentOf (sym ps k) (sym ls k) in
-      subst (λ (j : ℕ). Shows A B (frontOf m parents labels) j) (sym (x .node))
+      subst (λ (j : NodeNo). Shows A B (frontOf m parents labels) (j .0)) (sym (x .node))
       (subst (λ (y : Document). Shows A B y (answerNode (shapeOf A))) d (record {
         valid = witness-valid (shapeOf A) (x .label) va (x .fresh .label);
         answers = witness-answers (shapeOf A) (x .label) va (x .fresh .label);

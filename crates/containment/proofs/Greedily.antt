@@ -1,51 +1,37 @@
 -- The smallest mapping, chosen step by step, and the array that holds it. Assumes nothing.
 use Prim.Native.Nat.{ℕ, zero, suc, _+_, _≤_, _<_}
 use mathlib.Core.Path.{_≡_, refl, sym, ap, _∙_, subst, subst₂}
-use mathlib.Core.List.{List, [], _∷_, map}
+use mathlib.Core.List.{List, _∷_}
 use native.Mathlib.Omega.{arith}
 use native.Mathlib.Decide.{ℕ-discrete}
-use lib.ListN.{getD, set, replicate, List·getD-map}
+use lib.ListN.{getD, set, replicate}
 use Rattle.tables.specs.Bits.{bit}
-use Rattle.tables.specs.Column.{blocks, padded}
+use Rattle.tables.specs.Column.{blocks, stepNo, stepArray}
 use Rattle.tables.specs.Tree.{Child, child}
 use Rattle.tables.specs.Pattern.{Shape, rowsOf, ValidShape}
 use Rattle.tables.proofs.Choice.{upd, upd-same, upd-other}
-use Rattle.tables.proofs.Columns.{padded-next, padded-ext, padded-at}
+use Rattle.tables.proofs.Columns.{steps-next, steps-ext}
 use Rattle.tables.proofs.Rules.{shape-ordered}
 use Rattle.tables.proofs.Trees.{below-lt, below-here}
 use Rattle.placing.specs.Placement.{Goes}
 use Rattle.placing.proofs.Fit.{Able, able-ok, able-next}
 use Rattle.placing.proofs.Least.{greedy-least}
 use Rattle.containment.specs.Mapping.{BeginsIn, LeastMap}
-use Rattle.containment.specs.Containment.{stepNo, mappingArray}
 use Rattle.mappings.specs.Fits.{FitsIn, FitTable, Picks, ImageAt}
 use Rattle.mappings.proofs.StepFits.{mapTask}
 use Rattle.containment.proofs.Deciding.{maps-fit, fit-maps}
 use Rattle.mappings.proofs.StepFits.{fits-able, able-fits}
 use Rattle.mappings.proofs.Images.{pick-found, pick-some}
 
--- a store in a list of step numbers
-map-set : (xs : List ℕ) (k v : ℕ) → set (map stepNo xs) k (stepNo v) ≡ map stepNo (set xs k v)
-map-set [] k v = refl
-map-set (x ∷ xs) zero v = refl
-map-set (x ∷ xs) (suc k) v = ap (λ ys. stepNo x ∷ ys) (map-set xs k v)
-
 -- the array of step 0 alone
-pub mapping-one : (r : ℕ) → stepNo r ∷ replicate 63 (stepNo 0) ≡ mappingArray (λ u. r) 1
-unfolding mappingArray blocks
+pub mapping-one : (r : ℕ) → stepNo r ∷ replicate 63 (stepNo 0) ≡ stepArray (λ u. r) 1
+unfolding stepArray blocks
 mapping-one r = refl
 
 -- one step more
-pub mapping-more : (f : ℕ → ℕ) (k s : ℕ) → k < 64 → set (mappingArray f k) k (stepNo s) ≡ mappingArray (upd f k s) (k + 1)
-unfolding mappingArray
+pub mapping-more : (f : ℕ → ℕ) (k s : ℕ) → k < 64 → set (stepArray f k) k (stepNo s) ≡ stepArray (upd f k s) (k + 1)
 mapping-more f k s l =
-    map-set (padded f k) k s
-    ∙ ap (map stepNo) (padded-next (upd f k s) (padded f k) k s l (sym (upd-same f k s k refl))
-    (padded-ext f (upd f k s) k (λ u h. sym (upd-other f k s u (omega arith)))))
-
-pub mapping-at : (f : ℕ → ℕ) (k u : ℕ) → u < k → getD (mappingArray f k) u (stepNo 0) ≡ stepNo (f u)
-unfolding mappingArray
-mapping-at f k u l = List·getD-map stepNo (padded f k) u 0 ∙ ap stepNo (padded-at f k u l)
+    steps-next (upd f k s) (stepArray f k) k s l (sym (upd-same f k s k refl)) (steps-ext f (upd f k s) k (λ u h. sym (upd-other f k s u (omega arith))))
 
 -- the first k steps of B have their images, each the smallest that its parent's and what lies below it allow
 pub record Chose (B A : Shape) (k : ℕ) (f : ℕ → ℕ) : Type 0 where

@@ -1,7 +1,7 @@
 -- No second answer fits the containment call, nor that on equality. Assumes nothing.
 use Prim.Native.Nat.{ℕ}
 use mathlib.Core.Path.{_≡_, refl, sym, ap, ap₂, _∙_}
-use mathlib.Core.List.{List, _++_, map}
+use mathlib.Core.List.{List, _++_}
 use lib.ListN.{length, drop}
 use Rattle.tables.specs.Pattern.{shapeOf}
 use Rattle.tables.specs.Refusal.{Passes, Refuses}
@@ -9,10 +9,10 @@ use Rattle.tables.specs.declared.Pattern.{Pattern}
 use Rattle.tables.specs.declared.StepNo.{StepNo}
 use Rattle.tables.specs.declared.NodeNo.{NodeNo}
 use Rattle.tables.specs.declared.Refusal.{Refusal}
-use Rattle.tables.proofs.Columns.{padded-ext}
+use Rattle.tables.proofs.Columns.{steps-ext}
 use Rattle.tables.proofs.Refusals.{refuses-not-passes, refuses-unique}
 use Rattle.containment.specs.Witness.{witnessOf}
-use Rattle.containment.specs.Containment.{stepNo, mappingArray, containmentChecks, Within, ApartBy, AnswersContainment, DecidesContainment}
+use Rattle.containment.specs.Containment.{containmentChecks, Within, ApartBy, AnswersContainment, DecidesContainment}
 use Rattle.containment.specs.declared.Containment.{Containment}
 use Rattle.containment.specs.declared.Containment.the-variants as containment
 use Rattle.containment.specs.declared.ContainmentAnswer.{ContainmentAnswer}
@@ -23,23 +23,21 @@ use Rattle.containment.proofs.Deciding.{least-map-unique}
 use Rattle.containment.proofs.FreshLabel.{fresh-unique}
 
 within-unique : (A B : Pattern) (m n : List StepNo) → Within A B m → Within A B n → m ≡ n
-unfolding mappingArray
 within-unique A B m n h k =
-    h .array ∙ ap (map stepNo) (padded-ext (h .by) (k .by) (B .count) (least-map-unique (shapeOf B) (shapeOf A) (h .by) (k .by) (h .least) (k .least))) ∙ sym
-    (k .array)
+    h .array ∙ steps-ext (h .by) (k .by) (B .count) (least-map-unique (shapeOf B) (shapeOf A) (h .by) (k .by) (h .least) (k .least)) ∙ sym (k .array)
 
 module _ (A B : Pattern) (parents₀ labels₀ parents labels parents′ labels′ : List ℕ) where
   Same : Containment → Containment → List StepNo → List StepNo → Type 0
   Same a b m n = (a ≡ b) × (m ≡ n) × (parents ≡ parents′) × (labels ≡ labels′)
 
-  apart-unique : (c e : ℕ) (x y : NodeNo) (m n : List StepNo) → m ≡ n → ApartBy A B parents₀ labels₀ c (x .0) parents labels → ApartBy A B parents₀ labels₀ e
-      (y .0) parents′ labels′
+  apart-unique : (c e : ℕ) (x y : NodeNo) (m n : List StepNo) → m ≡ n → ApartBy A B parents₀ labels₀ c x parents labels → ApartBy A B parents₀ labels₀ e
+      y parents′ labels′
       → Same (containment.Apart c x) (containment.Apart e y) m n
   unfolding Same
   apart-unique c e x y m n z h k =
       let l : h .label ≡ k .label = fresh-unique (h .fresh) (k .fresh) in
       let u : c ≡ e = h .count ∙ sym (k .count) in
-      let w : x ≡ y = ap (λ (i : ℕ). record { 0 = i }) (h .node ∙ sym (k .node)) in
+      let w : x ≡ y = h .node ∙ sym (k .node) in
       let p : witnessOf (shapeOf A) (h .label) ≡ witnessOf (shapeOf A) (k .label) = ap (witnessOf (shapeOf A)) l in (
         ap₂ containment.Apart u w,
         z,

@@ -7,6 +7,7 @@ use native.Mathlib.Omega.{arith}
 use lib.ListN.{getD}
 use Rattle.tables.specs.Bits.{bit}
 use Rattle.tables.specs.Checks.{ChecksPattern}
+use Rattle.tables.specs.Column.{stepArray}
 use Rattle.tables.specs.Pattern.{Shape, shapeOf, ValidShape, ValidPattern}
 use Rattle.tables.specs.Refusal.{Refuses}
 use Rattle.tables.specs.declared.Checked.the-variants as checked
@@ -16,7 +17,7 @@ use Rattle.tables.specs.declared.StepNo.{StepNo}
 use Rattle.tables.proofs.Rules.{shape-ordered}
 use Rattle.tables.proofs.Trees.{from-here, from-root, parent-lt}
 use Rattle.containment.specs.Mapping.{BeginsIn, Maps, Contained}
-use Rattle.containment.specs.Containment.{mappingArray, Within}
+use Rattle.containment.specs.Containment.{Within}
 use Rattle.containment.specs.Equality.{pairChecks}
 use Rattle.containment.specs.inner.Verdict.{Decides}
 use Rattle.containment.specs.declared.comparing.Verdict.the-variants as verdict
@@ -80,7 +81,7 @@ module _ (A B : Pattern) where
   within-chosen va vb m h = record { contained = chosen-contained (shapeOf A) (shapeOf B) va vb m h; by = h .by; least = h .least; array = h .array }
 
   -- the answer "apart", with no mapping beside it
-  pub told-apart : (r : VerdictAnswer) → ValidPattern A → ValidPattern B → r .answer ≡ verdict.Apart → r .mapping ≡ mappingArray (λ t. 0) 0
+  pub told-apart : (r : VerdictAnswer) → ValidPattern A → ValidPattern B → r .answer ≡ verdict.Apart → r .mapping ≡ stepArray (λ t. 0) 0
       → (Contained (shapeOf A) (shapeOf B) → ⊥) → Decides A B r
   told-apart r va vb e m n = rw e ((va, (vb, tt)), n, m)
 

@@ -1,6 +1,6 @@
 -- The witness as the code writes it, one step after another. Assumes nothing.
 use Prim.Native.Nat.{ℕ, zero, suc, _+_, _-_, _≤_, _<_}
-use mathlib.Core.Path.{_≡_, refl, sym, _∙_}
+use mathlib.Core.Path.{_≡_, refl, sym, ap, _∙_}
 use mathlib.Core.Logic.{_⊎_, inl, inr}
 use mathlib.Core.List.{List, [], _∷_, _++_, append-assoc}
 use native.Mathlib.Omega.{arith}
@@ -8,8 +8,9 @@ use native.Mathlib.Numerals.{add-one}
 use borrow.Author.Count.{below-more}
 use lib.Seq.{getD-set-same, getD-set-other}
 use lib.ListN.{length, getD, drop, set, length-append, length-drop}
-use Rattle.tables.specs.Column.{blocks}
+use Rattle.tables.specs.Column.{blocks, nodeNo}
 use Rattle.tables.specs.Pattern.{Shape, ValidShape}
+use Rattle.tables.specs.declared.NodeNo.{NodeNo}
 use Rattle.tables.proofs.Columns.{put-next}
 use Rattle.tables.proofs.Rules.{shape-ordered}
 use Rattle.tables.proofs.Trees.{parent-lt}
@@ -33,21 +34,21 @@ pub record Front (A : Shape) (l s m : ℕ) (parents₀ labels₀ parents labels 
   pub label-list : labels ≡ blocks (labelsFor A l) s ++ drop m labels₀
 
 -- the table has the nodes of the first s steps
-abbrev pub NodesTo : Shape → ℕ → List ℕ → Type 0
-NodesTo A s nodes = (k : ℕ) → k < s → getD nodes k 0 ≡ ownNode A k
+abbrev pub NodesTo : Shape → ℕ → List NodeNo → Type 0
+NodesTo A s nodes = (k : ℕ) → k < s → getD nodes k (nodeNo 0) ≡ nodeNo (ownNode A k)
 
 -- one step more: its node is the last that is written
-pub nodes-more : (A : Shape) (s r : ℕ) (nodes : List ℕ) → s < length nodes → r ≡ s + 1 + descendants A (s + 1) → NodesTo A s nodes
-    → NodesTo A (s + 1) (set nodes s (r - 1))
+pub nodes-more : (A : Shape) (s r : ℕ) (nodes : List NodeNo) → s < length nodes → r ≡ s + 1 + descendants A (s + 1) → NodesTo A s nodes
+    → NodesTo A (s + 1) (set nodes s (nodeNo (r - 1)))
 unfolding ownNode
 nodes-more A s r nodes l e old =
-    below-more (λ (k : ℕ). getD (set nodes s (r - 1)) k 0 ≡ ownNode A k) s
-    (λ k g. getD-set-other nodes s k (r - 1) 0 (omega arith) ∙ old k g)
-    (getD-set-same nodes s (r - 1) 0 l ∙ rw (← add-one s) (omega (arith, e)))
+    below-more (λ (k : ℕ). getD (set nodes s (nodeNo (r - 1))) k (nodeNo 0) ≡ nodeNo (ownNode A k)) s
+    (λ k g. getD-set-other nodes s k (nodeNo (r - 1)) (nodeNo 0) (omega arith) ∙ old k g)
+    (getD-set-same nodes s (nodeNo (r - 1)) (nodeNo 0) l ∙ ap nodeNo (rw (← add-one s) (omega (arith, e))))
 
 -- the hook of a step, by the nodes of the steps before it
-pub hook-is : (A : Shape) → ValidShape A → (s r : ℕ) (nodes : List ℕ) → s < A .tree .size → NodesTo A s nodes → (s ≡ 0 → r ≡ 65535)
-    → (0 < s → r ≡ getD nodes (A .tree .parent s) 0) → r ≡ hook A s
+pub hook-is : (A : Shape) → ValidShape A → (s : ℕ) (r : NodeNo) (nodes : List NodeNo) → s < A .tree .size → NodesTo A s nodes → (s ≡ 0 → r ≡ nodeNo 65535)
+    → (0 < s → r ≡ getD nodes (A .tree .parent s) (nodeNo 0)) → r ≡ nodeNo (hook A s)
 unfolding hook
 hook-is A v zero r nodes h n f g = f refl
 hook-is A v (suc s) r nodes h n f g = g (omega arith) ∙ n (A .tree .parent (suc s)) (parent-lt (shape-ordered v) (suc s) (omega arith) h)
@@ -78,7 +79,7 @@ module _ (A : Shape) (va : ValidShape A) where
       )
 
   module _ (l s m r : ℕ) (parents₀ labels₀ parents labels parents′ labels′ : List ℕ) (h : s < A .tree .size)
-      (f : Front A l s m parents₀ labels₀ parents labels) (w : StepWrote (A .axis s) (hook A s) (A .label s) l m parents labels r parents′ labels′)
+      (f : Front A l s m parents₀ labels₀ parents labels) (w : StepWrote (A .axis s) (nodeNo (hook A s)) (A .label s) l m parents labels r parents′ labels′)
       (room : witnessSize A ≤ length parents₀) (wide : witnessSize A ≤ length labels₀) where
     pl : length (blocks (parentsFor A) s) ≡ m
     pl = parents-length A (axes va) s (omega arith) ∙ sym (f .place)

@@ -9,22 +9,30 @@ use tables::STEPS;
 use tables::StepNo;
 
 // The smallest mapping of b into a, where step 0 goes to `first`.
-pub(crate) fn choose(a: Pattern, b: Pattern, fit: &[u64; STEPS], first: usize) -> [StepNo; STEPS]
+pub(crate) fn choose(a: Pattern, b: Pattern, fit: &[u64; STEPS], first: StepNo) -> [StepNo; STEPS]
     requires { ⌜ ValidPattern a × ValidPattern b ⌝ }
     requires { ⌜ FitTable (shapeOf b) (shapeOf a) (now fit) ⌝ }
-    requires { ⌜ Picks (λ j. BeginsIn (shapeOf b) (shapeOf a) j × FitsIn (shapeOf b) (shapeOf a) j 0) first × (first < 64) ⌝ }
+    requires { ⌜ Picks (λ j. BeginsIn (shapeOf b) (shapeOf a) j × FitsIn (shapeOf b) (shapeOf a) j 0) (first .0) × (first .0 < 64) ⌝ }
     ensures { λ r. ⌜ Chosen (shapeOf b) (shapeOf a) r ⌝ }
 {
-    let parents = a.parent;
+    let steps = a.parent;
+    let parents = tables::bare_numbers(steps);
     let axes = a.axis;
     let mut mapping = [StepNo(0); STEPS];
-    mapping[0] = StepNo(first as u8);
+    mapping[0] = first;
     let n = b.count;
     for t in 1..n {
-        let o = b.parent[t] as usize;
-        let q = mapping[o].0 as usize;
-        let s = mappings::next_image(&parents, &axes, a.count, fit, t, b.axis[t], q);
-        mapping[t] = StepNo(s as u8);
+        let o = b.parent[t].0 as usize;
+        let q = mapping[o];
+        mapping[t] = mappings::next_image(
+            &parents,
+            &axes,
+            a.count,
+            fit,
+            StepNo(t as u8),
+            b.axis[t],
+            q,
+        );
     }
     mapping
 }

@@ -2,9 +2,9 @@
 ghost use mathlib.Core.Path.{_≡_};
 ghost use mathlib.Core.Logic.{_↔_};
 ghost use lib.Dec.{T};
+ghost use Rattle.tables.specs.Column.{stepArray};
 ghost use Rattle.tables.specs.Pattern.{shapeOf, ValidPattern};
 ghost use Rattle.containment.specs.Mapping.{Contained};
-ghost use Rattle.containment.specs.Containment.{mappingArray};
 ghost use Rattle.containment.specs.inner.Verdict.{Decides};
 use crate::choosing;
 use tables::Checked;
@@ -33,12 +33,13 @@ pub(crate) fn within(a: Pattern, b: Pattern) -> bool
 {
     let mut fit = [0u64; STEPS];
     mappings::fit_steps(a, b, &mut fit);
-    mappings::first_image(a.count, a.axis[0], b.axis[0], &fit) != mappings::NONE
+    let first = mappings::first_image(a.count, a.axis[0], b.axis[0], &fit);
+    first.0 != mappings::NONE
 }
 
 // The verdict with no mapping.
 fn beside(answer: Verdict) -> VerdictAnswer
-    ensures { λ r. ⌜ (r .answer ≡ answer) × (r .mapping ≡ mappingArray (λ t. 0) 0) ⌝ }
+    ensures { λ r. ⌜ (r .answer ≡ answer) × (r .mapping ≡ stepArray (λ t. 0) 0) ⌝ }
 {
     VerdictAnswer {
         answer: answer,
@@ -54,7 +55,7 @@ fn compare(a: Pattern, b: Pattern) -> VerdictAnswer
     let mut fit = [0u64; STEPS];
     mappings::fit_steps(a, b, &mut fit);
     let first = mappings::first_image(a.count, a.axis[0], b.axis[0], &fit);
-    if first == mappings::NONE {
+    if first.0 == mappings::NONE {
         return beside(Verdict::Apart);
     }
     let mapping = choosing::choose(a, b, &fit, first);

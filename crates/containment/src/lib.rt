@@ -5,8 +5,9 @@ ghost use mathlib.Core.Logic.{_⊎_};
 ghost use mathlib.Core.Bool.{false};
 ghost use lib.Dec.{T};
 ghost use lib.ListN.{getD};
+ghost use Rattle.tables.specs.Column.{stepArray};
 ghost use Rattle.tables.specs.Pattern.{shapeOf};
-ghost use Rattle.containment.specs.Containment.{mappingArray, DecidesContainment};
+ghost use Rattle.containment.specs.Containment.{DecidesContainment};
 ghost use Rattle.containment.specs.Equality.{DecidesEquality};
 ghost use Rattle.containment.specs.Witness.{Stands};
 ghost use Rattle.containment.specs.inner.Results.{FreshOr0};
@@ -115,7 +116,7 @@ pub fn equal(a: Pattern, b: Pattern) -> Equality
 
 // The answer with no mapping.
 fn beside(answer: Containment) -> ContainmentAnswer
-    ensures { λ r. ⌜ (r .answer ≡ answer) × (r .mapping ≡ mappingArray (λ t. 0) 0) ⌝ }
+    ensures { λ r. ⌜ (r .answer ≡ answer) × (r .mapping ≡ stepArray (λ t. 0) 0) ⌝ }
 {
     ContainmentAnswer {
         answer: answer,
@@ -156,9 +157,9 @@ pub fn contains(
         };
     }
     let nodes = witness::write_witness(a, l, parents, labels);
-    let node = witness::own_node(a, a.output.0 as usize) as u16;
+    let node = witness::own_node(a, a.output);
     beside(Containment::Apart {
         nodes: nodes,
-        answer: NodeNo(node),
+        answer: node,
     })
 }

@@ -2,12 +2,15 @@
 ghost use mathlib.Core.Path.{_≡_};
 ghost use mathlib.Core.List.{_++_};
 ghost use Prim.Native.Nat.{_+_, _≤_, _<_};
-ghost use lib.ListN.{length, getD, drop};
+ghost use lib.ListN.{length, drop};
+ghost use Rattle.tables.specs.Column.{nodeNo};
 ghost use Rattle.tables.specs.Pattern.{shapeOf, ValidPattern};
 ghost use Rattle.containment.specs.Witness.{descendants, ownNode, witnessSize, witnessOf};
 ghost use Rattle.containment.specs.inner.Results.{StepWrote};
+use tables::NodeNo;
 use tables::Pattern;
 use tables::STEPS;
+use tables::StepNo;
 
 // How many of the first k steps have axis descendant.
 pub(crate) fn descendants_before(a: Pattern, k: usize) -> usize
@@ -22,28 +25,19 @@ pub(crate) fn descendants_before(a: Pattern, k: usize) -> usize
 }
 
 // The node written for step s.
-pub(crate) fn own_node(a: Pattern, s: usize) -> usize
-    requires { ⌜ ValidPattern a × (s < a .count) ⌝ }
-    ensures { λ r. ⌜ (r ≡ ownNode (shapeOf a) s) × (r < 128) ⌝ }
+pub(crate) fn own_node(a: Pattern, s: StepNo) -> NodeNo
+    requires { ⌜ ValidPattern a × (s .0 < a .count) ⌝ }
+    ensures { λ r. ⌜ r ≡ nodeNo (ownNode (shapeOf a) (s .0)) ⌝ }
 {
-    s + descendants_before(a, s + 1)
-}
-
-// The parent of the first node written for step s, which hangs on step p, where `nodes` has the nodes of the steps before s.
-fn hook_of(nodes: &[u16; STEPS], p: u8, s: usize) -> u16
-    requires { ⌜ (0 < s → p < 64) ⌝ }
-    ensures { λ r. ⌜ (s ≡ 0 → r ≡ 65535) × (0 < s → r ≡ getD (now (nodes .entry)) p 0) ⌝ }
-{
-    if s == 0 {
-        return 65535;
-    }
-    nodes[p as usize]
+    let k = s.0 as usize;
+    let node = k + descendants_before(a, k + 1);
+    NodeNo(node as u16)
 }
 
 // The nodes of one step from place m on: a fresh node of label l first, where the axis is descendant, then the step's own. The place after them.
 fn write_step(
     axis: u8,
-    hook: u16,
+    hook: NodeNo,
     label: u16,
     l: u16,
     m: usize,
@@ -53,13 +47,14 @@ fn write_step(
     requires { ⌜ (m < 65535) × (axis ≤ 1) × (m + axis < length (now parents)) × (m + axis < length (now labels)) ⌝ }
     ensures { λ r. ⌜ StepWrote axis hook label l m (now (parents .entry)) (now (labels .entry)) r (now (parents .exit)) (now (labels .exit)) ⌝ }
 {
-    parents[m] = hook;
+    parents[m] = hook.0;
     if axis == 0 {
         labels[m] = label;
         return m + 1;
     }
+    let fresh = NodeNo(m as u16);
     labels[m] = l;
-    parents[m + 1] = m as u16;
+    parents[m + 1] = fresh.0;
     labels[m + 1] = label;
     m + 2
 }
@@ -72,12 +67,17 @@ pub(crate) fn write_witness(a: Pattern, l: u16, parents: &mut [u16], labels: &mu
     ensures labels { λ r. ⌜ now (labels .exit) ≡ witnessOf (shapeOf a) l .labels ++ drop r (now (labels .entry)) ⌝ }
 {
     let n = a.count;
-    let mut nodes = [0u16; STEPS];
+    let mut nodes = [NodeNo(0); STEPS];
     let mut m = 0;
     for s in 0..n {
-        let hook = hook_of(&nodes, a.parent[s], s);
+        // the parent of the first node: that of the parent step, for step 0 the mark
+        let mut hook = NodeNo(65535);
+        if 0 < s {
+            let p = a.parent[s].0 as usize;
+            hook = nodes[p];
+        }
         m = write_step(a.axis[s], hook, a.label[s], l, m, parents, labels);
-        nodes[s] = (m - 1) as u16;
+        nodes[s] = NodeNo((m - 1) as u16);
     }
     m
 }

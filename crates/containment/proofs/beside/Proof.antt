@@ -1,12 +1,11 @@
 -- `containment::beside` meets its contract. Assumes nothing.
 use mathlib.Core.Path.{refl}
-use Rattle.tables.specs.Column.{blocks}
-use Rattle.containment.specs.Containment.{mappingArray}
+use Rattle.tables.specs.Column.{blocks, stepArray}
 use Rattle.containment.proofs.beside.Statement.{statement}
 use Rattle.containment.proofs.beside.Tie as tie
 
 returns : tie.Need-returns
-unfolding mappingArray blocks
+unfolding stepArray blocks
 returns c = (refl, refl)
 
 pub beside-spec : {M : Type 1} → statement M

@@ -120,28 +120,27 @@ write-witness-requires c κs =
     (sound (c .before .before .before .before .before .before .before .before .before) .0, r .0, r .1)
 
 own-node-requires : tie.Need-own-node-requires
-own-node-requires c κs = let v = sound (c .before .before .before .before .before .before .before .before .before .before .before .before .before .before
-    .before) .0 in (v, v .output)
+own-node-requires c κs = let v = sound (c .before .before .before .before .before .before .before .before .before .before .before .before .before .before)
+    .0 in (v, v .output)
 
 returns-5 : tie.Need-returns-5
 returns-5 c =
-    let a = c .before .before .before .before .before .before .before .before .before .before .before .before .before .before .before .before .before .before
-    .before .before .before .args in
-    let e = c .before .before .before .before .before .before .before .before .before .before .before in
+    let e = c .before .before .before .before .before .before .before .before .before .before in
+    let a = e .before .before .before .before .before .before .before .before .before .before .args in
     let d = e .before .before .before in let k = d .before .before .before .before in
     let u = c .beside4 .ensures in
-    let w = c .before .before .before .before .before .before .before .write-witness .ensures in
+    let w = c .before .before .before .before .before .before .write-witness .ensures in
     let r = room e in let p = sound (d .before .before .before) in
     let f = free (d .before) in
     rw (u .0) (
       all-pass (a .a) (a .b) (length (now (a .parents))) (length (now (a .labels))) p _ f (r .0) (r .1),
       record {
         not-contained = apart (a .a) (a .b) _ (k .decide .result .answer) (k .decide .ensures) p
-            (c .before .before .before .before .before .before .before .before .before .before .match2 .keys2);
+            (c .before .before .before .before .before .before .before .before .before .match2 .keys2);
         label = d .before .before .fresh .result;
         fresh = f;
         count = w .0;
-        node = c .before .own-node .ensures .0;
+        node = c .before .own-node .ensures;
         parent-list = w .1 .0;
         label-list = w .1 .1;
       },
@@ -151,5 +150,5 @@ returns-5 c =
 pub contains-spec : {M : Type 1} → statement M
 contains-spec = tie.close (tie.spec (λ c κs. search needs) (λ c. search needs) (λ c κs. search needs) returns
     (λ c κs. (sound c .0 .few, sound c .1 .0 .few)) (λ c κs. search needs) returns-2 (λ c κs. (sound (c .before .before) .0, omega arith)) add-m
-    (λ c κs. search needs) returns-3 (λ c. search needs) returns-4 write-witness-requires (λ c. search needs) own-node-requires (λ c. search needs)
-    (λ c κs. search needs) (λ c. search needs) (λ c. search needs) returns-5)
+    (λ c κs. search needs) returns-3 (λ c. search needs) returns-4 write-witness-requires own-node-requires (λ c κs. search needs) (λ c. search needs)
+    (λ c. search needs) returns-5)

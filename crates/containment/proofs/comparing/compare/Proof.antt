@@ -11,7 +11,7 @@ use Rattle.containment.proofs.comparing.compare.Tie as tie
 -- the step picked is the smallest that may take step 0
 picks : (c : tie.After-first-image) → let s = c .before .before .before .before .before .before in
     Picks (λ j. BeginsIn (shapeOf (s .args .t2)) (shapeOf (s .args .t1)) j × FitsIn (shapeOf (s .args .t2)) (shapeOf (s .args .t1)) j 0)
-    (c .first-image .result)
+    (c .first-image .result .0)
 picks c =
     let s = c .before .before .before .before .before .before in
     first-picked (shapeOf (s .args .t1)) (shapeOf (s .args .t2)) (s .pre .0) (s .pre .1) (c .before .before .before .before .fit-steps .last .1 .1 .0) _
@@ -19,19 +19,19 @@ picks c =
 
 returns : tie.Need-returns
 returns c =
-    let g = c .before .before in let s = g .before .before .before .before .before .before in
+    let g = c .before .before .before in let s = g .before .before .before .before .before .before in
     let u = c .beside .ensures in
     told-apart (s .args .t1) (s .args .t2) (c .beside .result) (s .pre .0) (s .pre .1) (u .0) (u .1)
     (not-contained _ _ (s .pre .0) (s .pre .1) _ (c .before .if1 .taken) (picks g))
 
 choose-requires : tie.Need-choose-requires
 choose-requires c κs =
-    let g = c .before .before in let s = g .before .before .before .before .before .before in
+    let g = c .before .before .before in let s = g .before .before .before .before .before .before in
     (s .pre, (g .before .before .before .before .fit-steps .ensures, (picks g, pick-below (picks g) (c .before .if1 .left))))
 
 returns-2 : tie.Need-returns-2
 returns-2 c =
-    let s = c .before .before .before .before .before .before .before .before .before in
+    let s = c .before .before .before .before .before .before .before .before .before .before in
     ((s .pre .0, (s .pre .1, tt)), within-chosen _ _ (s .pre .0) (s .pre .1) _ (c .choose .ensures))
 
 pub compare-spec : {M : Type 1} → statement M

@@ -8,11 +8,11 @@ use Rattle.containment.proofs.comparing.within.Tie as tie
 
 returns : tie.Need-returns
 returns c =
-    let s = c .before .before .before .before .before .before in let A = shapeOf (s .args .t1) in
+    let s = c .before .before .before .before .before .before .before in let A = shapeOf (s .args .t1) in
     let B = shapeOf (s .args .t2) in
-    let p = first-picked A B (s .pre .0) (s .pre .1) (c .before .before .before .before .fit-steps .last .1 .1 .0) _
-    (c .before .before .before .before .fit-steps .ensures) (c .first-image .ensures) in
-    let t = tells-not (tells-eq (c .first-image .result) 64) in (
+    let p = first-picked A B (s .pre .0) (s .pre .1) (c .before .before .before .before .before .fit-steps .last .1 .1 .0) _
+    (c .before .before .before .before .before .fit-steps .ensures) (c .before .first-image .ensures) in
+    let t = tells-not (tells-eq (c .before .first-image .result .0) 64) in (
       λ h. picked-contained A B (s .pre .0) (s .pre .1) _ (t .says h) p,
       λ h. t .test (λ e. not-contained A B (s .pre .0) (s .pre .1) _ e p h),
     )

@@ -1,10 +1,11 @@
 -- `containment::witness::write_witness` meets its contract: the steps before s are written. Assumes nothing.
 use Prim.Native.Nat.{ℕ, _+_, _-_, _≤_, _<_}
 use mathlib.Core.Path.{_≡_, refl}
-use mathlib.Core.Logic.{_⊎_, inl, inr}
+use mathlib.Core.Logic.{_⊎_, inl, inr, ⊎-elim}
 use denote.Ref.{now}
 use native.Mathlib.Omega.{arith}
 use lib.ListN.{length, length-set}
+use Rattle.tables.specs.Column.{nodeNo}
 use Rattle.tables.specs.Pattern.{Shape, shapeOf}
 use Rattle.tables.proofs.MarkTables.{parent-few}
 use Rattle.containment.specs.Witness.{hook, witnessOf}
@@ -23,7 +24,7 @@ abbrev μ-loop : tie.MeasureT-loop
 
 -- the turn of a step, the loop and the start, seen from there
 abbrev turn : tie.After-slice-known4 Inv-loop μ-loop → tie.In-loop Inv-loop μ-loop
-turn c = c .before .before .before .before .before .before .before .before .before .before .before .before
+turn c = c .before .before .before .before .before .before .before .before .before .before
 
 abbrev start : tie.In-loop Inv-loop μ-loop → tie.Start Inv-loop μ-loop
 start x = x .before .before .before .before
@@ -42,12 +43,13 @@ at-most (inr e) = omega arith
 loop-holds : tie.Need-loop-holds Inv-loop μ-loop
 loop-holds c = (omega arith, front-none _ _ _ _, refl, λ k g. absurd (omega arith))
 
-hook-of-requires : tie.Need-hook-of-requires Inv-loop μ-loop
-hook-of-requires c κs = let x = c .before .before in λ l. parent-few (shape x) (start x .pre .0) (x .before .loop .s) l (x .loop-test .taken)
+-- its parent is a step before it
+over : (x : tie.Then1 Inv-loop μ-loop) → shape (x .before) .tree .parent (x .before .before .loop .s) < 64
+over x = parent-few (shape (x .before)) (start (x .before) .pre .0) (x .before .before .loop .s) (x .if1 .taken) (x .before .loop-test .taken)
 
 write-step-requires : tie.Need-write-step-requires Inv-loop μ-loop
 write-step-requires c κs =
-    let x = c .before .before .before .before .before .before .before in let l = x .before .loop in
+    let x = c .before .before .before .before .before in let l = x .before .loop in
     let p = start x .pre in let f = l .inv .1 in
     let r = front-room (shape x) (p .0) (l .s) (x .loop-test .taken) in
     let k = front-lengths _ (p .0) _ (l .s) _ _ _ _ _ (l .inv .0) f (p .1) (p .2) in (
@@ -58,10 +60,11 @@ write-step-requires c κs =
     )
 
 -- the hook is the step's
-hooked : (c : tie.After-hook-of Inv-loop μ-loop) → c .hook-of .result ≡ hook (shape (c .before .before .before)) (c .before .before .before .before .loop .s)
+hooked : (c : tie.Joined1 Inv-loop μ-loop) → c .if1 .hook ≡ nodeNo (hook (shape (c .before)) (c .before .before .loop .s))
 hooked c =
-    let x = c .before .before .before in let l = x .before .loop in
-    hook-is (shape x) (start x .pre .0) (l .s) _ (l .nodes) (x .loop-test .taken) (l .inv .3) (c .hook-of .ensures .0) (c .hook-of .ensures .1)
+    let x = c .before in let l = x .before .loop in
+    let h = hook-is (shape x) (start x .pre .0) (l .s) (c .if1 .hook) (l .nodes) (x .loop-test .taken) (l .inv .3) in
+    ⊎-elim (λ w. h (λ e. absurd (omega (arith, w .0 .taken))) (λ g. w .2)) (λ w. h (λ e. w .1) (λ g. absurd (omega (arith, w .0 .left)))) (c .if1 .came)
 
 -- the first steps up to step s are written, when it is
 written : (c : tie.After-slice-known4 Inv-loop μ-loop) → let w = c .before .before .before .before .write-step in
@@ -74,8 +77,8 @@ written c =
     front-more (shape x) (s .pre .0) (s .args .l) (l .s) (l .m) _ _ _ _ _ _ _ (x .loop-test .taken) (l .inv .1)
     (rw (hooked (y .before .before .before .before .before)) at (y .write-step .ensures)) (s .pre .1) (s .pre .2)
 
-cast-nodes : tie.Need-cast-nodes Inv-loop μ-loop
-cast-nodes c =
+cast-t27 : tie.Need-cast-t27 Inv-loop μ-loop
+cast-t27 c =
     let x = turn c in let p = start x .pre in
     let d = descendants-le (shape x) (axes (p .0)) (x .before .loop .s + 1) (omega (arith, x .loop-test .taken)) in
     record { fits = omega (arith, written c .place, d, few x) }
@@ -104,7 +107,8 @@ returns c =
     (f .place, (f .parent-list, f .label-list))
 
 pub write-witness-spec : {M : Type 1} → statement M
-write-witness-spec = tie.close (tie.spec Inv-loop μ-loop loop-holds (λ c. few (c .before)) hook-of-requires (λ c. few (c .before .before .before))
-    (λ c. record { fits = omega (arith, few (c .before .before .before .before)) }) (λ c. few (c .before .before .before .before)) write-step-requires
-    (λ c. omega (arith, written c .place)) cast-nodes (λ c. record { fits = omega (arith, few (turn c)) }) (λ c. few (turn c))
+write-witness-spec = tie.close (tie.spec Inv-loop μ-loop loop-holds (λ c. few (c .before)) (λ c. record { fits = omega (arith, over c) })
+    (λ c. record { fits = omega (arith, over c) }) (λ c. omega (arith, over c, c .before .before .loop .inv .2)) (λ c. few (c .before))
+    (λ c. record { fits = omega (arith, few (c .before .before)) }) (λ c. few (c .before .before)) write-step-requires
+    (λ c. omega (arith, written c .place)) cast-t27 (λ c. record { fits = omega (arith, few (turn c)) }) (λ c. few (turn c))
     (λ c. record { fits = omega (arith, few (turn c)) }) (λ c. omega (arith, turn c .loop-test .taken)) loop-again same-length same-length-2 returns)
