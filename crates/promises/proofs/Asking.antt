@@ -15,7 +15,7 @@ use Rattle.placing.specs.Answer.{Answer, Lists}
 use Rattle.placing.proofs.Listing.{lists-unique, lists-iff}
 use Rattle.asking.specs.Text.{viewWord, queryWord, rewritingWord, line, noneLine, refusedLine}
 use Rattle.asking.specs.Parts.{documentPart}
-use Rattle.asking.specs.Replies.{ThirdLine, handed, none, refused, Answered, documentIn, AllRight, Replies, document, view, query, extra, answered}
+use Rattle.asking.specs.Replies.{ThirdLine, handed, none, refused, documentIn, Replies, document, view, query, extra, answered}
 use Rattle.promises.proofs.Joining.{started-by}
 use Rattle.promises.proofs.Lines.{line-then, line-unique, line-not-none, line-not-refused}
 use Rattle.promises.proofs.Rewriting.{serves-gives}

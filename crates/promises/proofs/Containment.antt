@@ -6,7 +6,6 @@ use mathlib.Core.Logic.{_↔_}
 use mathlib.Core.List.{List}
 use native.Mathlib.Omega.{arith}
 use lib.ListN.{length, take}
-use Rattle.tables.specs.Document.{Document, ValidDocument}
 use Rattle.tables.specs.Pattern.{shapeOf}
 use Rattle.tables.specs.Refusal.{Passes}
 use Rattle.tables.specs.declared.NodeNo.{NodeNo}
@@ -21,7 +20,7 @@ use Rattle.containment.specs.Containment.{containmentChecks, AnswersContainment
 use Rattle.containment.specs.declared.Containment.{Containment}
 use Rattle.containment.specs.declared.Containment.the-variants as containment
 use Rattle.containment.specs.declared.ContainmentAnswer.{ContainmentAnswer}
-use Rattle.containment.proofs.Called.{frontOf, Shows, call-apart}
+use Rattle.containment.proofs.Called.{frontOf, call-apart}
 use Rattle.promises.proofs.Joining.{front}
 
 module _ (A B : Pattern) (parents₀ labels₀ : List ℕ) where

@@ -5,4 +5,8 @@ pub mod Containment
 pub mod Lines
 pub mod Asking
 pub mod Refused
+pub mod Agreeing
+pub mod AgreeingPairs
 pub mod Starting
+pub mod Moved
+pub mod Unread

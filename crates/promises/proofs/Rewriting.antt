@@ -4,14 +4,11 @@ use Prim.Native.Nat.{ℕ}
 use mathlib.Core.Path.{_≡_, refl, subst}
 use mathlib.Core.Logic.{_↔_}
 use native.Mathlib.Omega.{arith}
-use Rattle.tables.specs.Document.{Document, ValidDocument}
-use Rattle.tables.specs.Pattern.{shapeOf, ValidPattern}
+use Rattle.tables.specs.Pattern.{shapeOf}
 use Rattle.tables.specs.Refusal.{Passes}
 use Rattle.tables.specs.declared.Pattern.{Pattern}
 use Rattle.tables.proofs.Refusals.{refuses-not-passes}
-use Rattle.placing.specs.Answer.{Answer, Started}
 use Rattle.containment.specs.Mapping.{Contained}
-use Rattle.joining.specs.Join.{joinOf}
 use Rattle.joining.proofs.Started.{join-answers}
 use Rattle.rewriting.specs.Rewriting.{Serves, rewritingChecks, AnswersRewriting, Rewrites}
 use Rattle.rewriting.specs.declared.Rewriting.{Rewriting}

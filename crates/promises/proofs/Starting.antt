@@ -9,7 +9,7 @@ use Rattle.tables.specs.declared.Pattern.{Pattern}
 use Rattle.tables.specs.declared.Counted.the-variants as counted
 use Rattle.tables.proofs.Marks.{marks-to}
 use Rattle.placing.specs.Placement.{LabelFits, Reaches}
-use Rattle.placing.specs.Answer.{Started, In, Lists, StartList}
+use Rattle.placing.specs.Answer.{In, Lists, StartList}
 use Rattle.placing.proofs.Listing.{lists-iff}
 use Rattle.answers.specs.Working.{FitsAt, PlacedAt}
 use Rattle.answers.specs.Answers.{Found, FindsStarted}
