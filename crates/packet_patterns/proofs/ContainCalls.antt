@@ -7,7 +7,7 @@ use native.Mathlib.Omega.{arith}
 use lib.ListN.{length, getD, take, drop, replicate, length-replicate}
 use lib.Seq.{take-at}
 use Rattle.tables.specs.Checks.{roomFor}
-use Rattle.tables.specs.Column.{column}
+use Rattle.tables.specs.Column.{column, stepNo}
 use Rattle.tables.specs.Document.{Document, documentOf}
 use Rattle.tables.specs.Pattern.{Shape, shapeOf, ValidShape}
 use Rattle.tables.specs.Refusal.{Check, Passes, Refuses}
@@ -23,7 +23,7 @@ use Rattle.packets.specs.PatternPacket.{packetPattern, patternChecks, ReadsTwo}
 use Rattle.packets.specs.DocumentPacket.{documentPacket}
 use Rattle.packets.specs.declared.TwoRead.{TwoRead}
 use Rattle.packets.proofs.Views.{TwoRight, two-of, two-told}
-use Rattle.containment.specs.Containment.{stepNo, AnswersContainment, DecidesContainment}
+use Rattle.containment.specs.Containment.{AnswersContainment, DecidesContainment}
 use Rattle.containment.specs.Witness.{witnessSize, witnessOf}
 use Rattle.containment.specs.declared.Containment.{Containment}
 use Rattle.containment.specs.declared.Containment.the-variants as containment
@@ -137,6 +137,6 @@ module _ {xs ys : List ℕ} {t : TwoRead} (s : ReadsTwo xs ys t) where
                   not-contained = w .not-contained;
                   label = w .label;
                   fresh = w .fresh;
-                  written = k ∙ told room₀ fronts (w .node) n;
+                  written = k ∙ told room₀ fronts (ap (λ (i : NodeNo). i .0) (w .node)) n;
                 }) z;
           }

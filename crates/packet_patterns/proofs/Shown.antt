@@ -5,14 +5,13 @@ use mathlib.Core.List.{List, [], _∷_, _++_}
 use native.Mathlib.Omega.{arith}
 use lib.ListN.{length, getD, take, drop, List·getD-map}
 use lib.Seq.{ext-getD}
-use Rattle.tables.specs.Column.{column, padded}
+use Rattle.tables.specs.Column.{column, padded, stepNo, stepArray}
 use Rattle.tables.specs.Document.{Document, nodeCount}
 use Rattle.tables.specs.declared.StepNo.{StepNo}
 use Rattle.tables.proofs.Columns.{put-block, column-length, column-at, padded-length}
 use Rattle.halves.specs.Bytes.{high, low}
 use Rattle.packets.specs.DocumentPacket.{documentPacket}
 use Rattle.packets.proofs.DocumentTrip.{document-packet-length}
-use Rattle.containment.specs.Containment.{stepNo, mappingArray}
 
 -- a node after the packet of a document
 pub written-node : (d : Document) (room out next : List ℕ) (x : ℕ) → out ≡ documentPacket d ++ drop (4 * nodeCount d + 3) room
@@ -24,8 +23,8 @@ written-node d room out next x e f =
     ∙ put-block (documentPacket d) (high x ∷ low x ∷ []) room (4 * nodeCount d + 3) 2 (document-packet-length d)
 
 -- the bytes of a mapping's array
-pub mapping-bytes : (f : ℕ → ℕ) (n : ℕ) (m : List StepNo) → n ≤ 64 → m ≡ mappingArray f n → column (λ k. getD m k (stepNo 0) .0) 64 ≡ padded f n
-unfolding mappingArray
+pub mapping-bytes : (f : ℕ → ℕ) (n : ℕ) (m : List StepNo) → n ≤ 64 → m ≡ stepArray f n → column (λ k. getD m k (stepNo 0) .0) 64 ≡ padded f n
+unfolding stepArray
 mapping-bytes f n m l e =
     let g : ℕ → ℕ = λ k. getD m k (stepNo 0) .0 in
     ext-getD 0 (column g 64) (padded f n) (column-length g 64 ∙ sym (padded-length f n l))

@@ -7,7 +7,7 @@ ghost use Rattle.tables.specs.Column.{column};
 ghost use Rattle.tables.specs.Document.{documentOf};
 ghost use Rattle.halves.specs.Bytes.{high, low};
 ghost use Rattle.packets.specs.DocumentPacket.{documentPacket};
-ghost use Rattle.containment.specs.Containment.{stepNo};
+ghost use Rattle.tables.specs.Column.{stepNo};
 ghost use Rattle.packet_patterns.specs.Contained.{ContainsPackets};
 ghost use Rattle.packets.specs.inner.Putting.{Puts};
 ghost use Rattle.packet_patterns.specs.Patterns.{JoinsPackets, RewritesPackets, CopiesPacket};
@@ -15,6 +15,7 @@ use containment::Containment;
 use rewriting::Rewriting;
 use tables::Checked;
 use tables::Counted;
+use tables::NodeNo;
 use tables::Refusal;
 use tables::STEPS;
 use tables::StepNo;
@@ -81,16 +82,16 @@ fn put_mapping(mapping: [StepNo; STEPS], room: &mut [u8]) -> Counted
 }
 
 // The packet of a document and then a node of it; the answer is 0.
-fn put_witness(parents: &[u16], labels: &[u16], node: u16, room: &mut [u8]) -> Counted
+fn put_witness(parents: &[u16], labels: &[u16], node: NodeNo, room: &mut [u8]) -> Counted
     requires { ⌜ (length (now parents) ≤ 128) × (length (now labels) ≡ length (now parents)) ⌝ }
-    ensures { λ r. ⌜ Puts 517 (documentPacket (documentOf (now (parents .entry)) (now (labels .entry))) ++ (high node ∷ low node ∷ []))
+    ensures { λ r. ⌜ Puts 517 (documentPacket (documentOf (now (parents .entry)) (now (labels .entry))) ++ (high (node .0) ∷ low (node .0) ∷ []))
         (4 * length (now (parents .entry)) + 3 + 2) 0 (now (room .entry)) r (now (room .exit)) ⌝ }
 {
     if room.len() < 517 {
         return Counted::Refused(Refusal::Room);
     }
     packets::put_document(parents, labels, room);
-    halves::put_half(room, 4 * parents.len() + 3, node);
+    halves::put_half(room, 4 * parents.len() + 3, node.0);
     Counted::Count(0)
 }
 
@@ -115,7 +116,7 @@ pub fn contain_packets(a: &[u8], b: &[u8], room: &mut [u8]) -> Counted
         Containment::Apart {
             nodes: m,
             answer: node,
-        } => put_witness(&parents[..m], &labels[..m], node.0, room),
+        } => put_witness(&parents[..m], &labels[..m], node, room),
         Containment::Refused(r) => Counted::Refused(r),
     }
 }

@@ -6,7 +6,7 @@ use mathlib.Core.List.{_++_}
 use lib.ListN.{length, getD, drop, length-set}
 use Rattle.tables.specs.Column.{blocks, column}
 use Rattle.tables.proofs.Columns.{column-next}
-use Rattle.containment.specs.Containment.{stepNo}
+use Rattle.tables.specs.Column.{stepNo}
 use native.Mathlib.Omega.{arith}
 use denote.Ref.{now}
 use borrow.Author.Needs.{needs}

@@ -18,7 +18,7 @@ returns-2 c =
         (omega arith, tt),
         (
           refl,
-          written-node (documentOf (now (a .parents)) (now (a .labels))) (now (a .room)) _ _ (a .node) (d .put-document .ensures)
+          written-node (documentOf (now (a .parents)) (now (a .labels))) (now (a .room)) _ _ (a .node .0) (d .put-document .ensures)
               (c .before .before .put-half .ensures),
         ),
       );
