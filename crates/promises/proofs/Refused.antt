@@ -2,6 +2,7 @@
 use Prim.Native.Nat.{ℕ}
 use mathlib.Core.Path.{_≡_, subst}
 use mathlib.Core.List.{List}
+use Rattle.tables.specs.Column.{stepArray}
 use Rattle.tables.specs.Document.{Document}
 use Rattle.tables.specs.Pattern.{zeroPattern}
 use Rattle.tables.specs.Refusal.{Check, Decided}
@@ -14,7 +15,7 @@ use Rattle.packets.specs.PatternPacket.{packetPattern, patternChecks, ReadsPatt
 use Rattle.packets.specs.DocumentPacket.{ReadsNodes, ReadsDocument, WritesDocument}
 use Rattle.packets.specs.declared.PatternRead.{PatternRead}
 use Rattle.answers.specs.Answers.{FindsAnswers, FindsStarted}
-use Rattle.containment.specs.Containment.{mappingArray, AnswersContainment, DecidesContainment}
+use Rattle.containment.specs.Containment.{AnswersContainment, DecidesContainment}
 use Rattle.containment.specs.declared.Containment.{Containment}
 use Rattle.containment.specs.declared.Containment.the-variants as containment
 use Rattle.containment.specs.declared.ContainmentAnswer.{ContainmentAnswer}
@@ -61,7 +62,7 @@ reply-unchanged bs before after q h = h .1
 -- containment: both lists are, and the mapping is zero
 pub contains-unchanged : (A B : Pattern) (parents₀ labels₀ : List ℕ) (r : ContainmentAnswer) (parents labels : List ℕ) (q : Refusal)
     → DecidesContainment A B parents₀ labels₀ r parents labels → r .answer ≡ containment.Refused q
-    → (r .mapping ≡ mappingArray (λ t. 0) 0) × (parents ≡ parents₀) × (labels ≡ labels₀)
+    → (r .mapping ≡ stepArray (λ t. 0) 0) × (parents ≡ parents₀) × (labels ≡ labels₀)
 contains-unchanged A B parents₀ labels₀ r parents labels q h e =
     let k = subst (λ (a : Containment). AnswersContainment A B parents₀ labels₀ a (r .mapping) parents labels) e h in (k .1, k .2, k .3)
 
