@@ -6,7 +6,7 @@ use mathlib.Core.List.{List, _++_}
 use native.Mathlib.Omega.{arith}
 use lib.ListN.{length, drop}
 use Rattle.tables.specs.Checks.{patternRight, ChecksPattern}
-use Rattle.tables.specs.Column.{stepArray}
+use Rattle.tables.specs.Column.{nodeNo, stepArray}
 use Rattle.tables.specs.Document.{Document}
 use Rattle.tables.specs.Pattern.{shapeOf, zeroPattern, ValidPattern}
 use Rattle.tables.specs.declared.Pattern.{Pattern}
@@ -129,7 +129,7 @@ module _ {A A′ B B′ : Pattern} (e : SameSteps A A′) (f : SameSteps B B′)
           label = k .label;
           fresh = fresh-alike x y (k .label) (k .fresh);
           count = k .count ∙ size-alike x;
-          node = k .node ∙ node-alike x u;
+          node = k .node ∙ ap nodeNo (node-alike x u);
           parent-list = k .parent-list ∙ ap (λ d. d .parents ++ drop n parents₀) w;
           label-list = k .label-list ∙ ap (λ d. d .labels ++ drop n labels₀) w;
         },
