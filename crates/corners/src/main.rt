@@ -55,7 +55,7 @@ fn say_bytes(bytes: &[u8; 260]) {
 
 // The last entries of a pattern's table.
 fn say_last(p: Pattern) {
-    tell(b", last entries ", wide_byte(p.parent[63]));
+    tell(b", last entries ", wide_byte(p.parent[63].0));
     tell(b" ", wide_byte(p.axis[63]));
     tell(b" ", wide(p.label[63]));
     say(b"\n");
@@ -80,7 +80,7 @@ fn filled(packet: &[u8], x: u8) -> Pattern {
     let n = p.count;
     for s in 0..64 {
         if n <= s {
-            p.parent[s] = x;
+            p.parent[s] = StepNo(x);
             p.axis[s] = x;
             p.label[s] = x as u16;
         }

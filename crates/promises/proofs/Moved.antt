@@ -6,6 +6,7 @@ use mathlib.Core.List.{List, _++_}
 use native.Mathlib.Omega.{arith}
 use lib.ListN.{length, drop}
 use Rattle.tables.specs.Checks.{patternRight, ChecksPattern}
+use Rattle.tables.specs.Column.{nodeNo, stepArray}
 use Rattle.tables.specs.Document.{Document}
 use Rattle.tables.specs.Pattern.{shapeOf, zeroPattern, ValidPattern}
 use Rattle.tables.specs.declared.Pattern.{Pattern}
@@ -20,7 +21,7 @@ use Rattle.packets.proofs.PatternTrip.{pattern-packet-agree}
 use Rattle.answers.specs.Answers.{answerChecks, startedChecks, FindsAnswers, FindsStarted}
 use Rattle.containment.specs.Mapping.{Equal}
 use Rattle.containment.specs.Witness.{witnessSize}
-use Rattle.containment.specs.Containment.{mappingArray, containmentChecks, AnswersContainment}
+use Rattle.containment.specs.Containment.{containmentChecks, AnswersContainment}
 use Rattle.containment.specs.Equality.{pairChecks, DecidesEquality}
 use Rattle.containment.specs.declared.Containment.{Containment}
 use Rattle.containment.specs.declared.Containment.the-variants as containment
@@ -112,7 +113,7 @@ module _ {A A′ B B′ : Pattern} (e : SameSteps A A′) (f : SameSteps B B′)
           contained = contained-alike x y u v (h .1 .contained);
           by = h .1 .by;
           least = least-alike x y u v (h .1 .by) (h .1 .least);
-          array = h .1 .array ∙ ap (mappingArray (h .1 .by)) (f .count);
+          array = h .1 .array ∙ ap (stepArray (h .1 .by)) (f .count);
         },
         h .2,
         h .3,
@@ -128,7 +129,7 @@ module _ {A A′ B B′ : Pattern} (e : SameSteps A A′) (f : SameSteps B B′)
           label = k .label;
           fresh = fresh-alike x y (k .label) (k .fresh);
           count = k .count ∙ size-alike x;
-          node = k .node ∙ node-alike x u;
+          node = k .node ∙ ap nodeNo (node-alike x u);
           parent-list = k .parent-list ∙ ap (λ d. d .parents ++ drop n parents₀) w;
           label-list = k .label-list ∙ ap (λ d. d .labels ++ drop n labels₀) w;
         },

@@ -2,6 +2,7 @@
 use Prim.Native.Nat.{ℕ}
 use mathlib.Core.Path.{_≡_, subst}
 use mathlib.Core.List.{List}
+use Rattle.tables.specs.Column.{stepArray}
 use Rattle.tables.specs.Document.{Document}
 use Rattle.tables.specs.Column.{stepArray}
 use Rattle.tables.specs.Pattern.{zeroPattern}

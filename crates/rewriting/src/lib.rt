@@ -38,88 +38,93 @@ fn main_length(p: Pattern) -> usize
     requires { ⌜ ValidPattern p ⌝ }
     ensures { λ r. ⌜ r ≡ length (mainPath (shapeOf p)) ⌝ }
 {
-    let mut s = p.output.0 as usize;
+    let mut s = p.output;
     let mut k = 0;
-    while 0 < s {
-        s = p.parent[s] as usize;
+    while 0 < s.0 {
+        let row = s.0 as usize;
+        s = p.parent[row];
         k += 1;
     }
     k + 1
 }
 
 // The step of the main path that is `up` steps above its end.
-fn main_step(p: Pattern, up: usize) -> usize
+fn main_step(p: Pattern, up: usize) -> StepNo
     requires { ⌜ ValidPattern p ⌝ }
     requires { ⌜ up < length (mainPath (shapeOf p)) ⌝ }
-    ensures { λ r. ⌜ r ≡ getD (mainPath (shapeOf p)) (length (mainPath (shapeOf p)) - 1 - up) 0 ⌝ }
+    ensures { λ r. ⌜ r .0 ≡ getD (mainPath (shapeOf p)) (length (mainPath (shapeOf p)) - 1 - up) 0 ⌝ }
 {
-    let mut s = p.output.0 as usize;
+    let mut s = p.output;
     for _k in 0..up {
-        s = p.parent[s] as usize;
+        let row = s.0 as usize;
+        s = p.parent[row];
     }
     s
 }
 
 // How many steps are step c or below it: they stand in one run, which ends before the first later step that hangs before c.
-fn cut_size(p: Pattern, c: usize) -> usize
+fn cut_size(p: Pattern, c: StepNo) -> usize
     requires { ⌜ ValidPattern p ⌝ }
-    requires { ⌜ c < p .count ⌝ }
-    ensures { λ r. ⌜ ((u : ℕ) → From (shapeOf p .tree) c u → u < c + r) × ((t : ℕ) → t < r → From (shapeOf p .tree) c (c + t)) ⌝ }
+    requires { ⌜ c .0 < p .count ⌝ }
+    ensures { λ r. ⌜ ((u : ℕ) → From (shapeOf p .tree) (c .0) u → u < c .0 + r) × ((t : ℕ) → t < r → From (shapeOf p .tree) (c .0) (c .0 + t)) ⌝ }
 {
     let n = p.count;
-    let mut u = c + 1;
+    let row = c.0 as usize;
+    let mut u = row + 1;
     while u < n {
-        if (p.parent[u] as usize) < c {
-            return u - c;
+        if p.parent[u].0 < c.0 {
+            return u - row;
         }
         u += 1;
     }
-    u - c
+    u - row
 }
 
 // Step c of a pattern, which is on its main path, with all steps below it, as a compensation: zeros past its steps.
-fn cut(q: Pattern, c: usize) -> Pattern
+fn cut(q: Pattern, c: StepNo) -> Pattern
     requires { ⌜ ValidPattern q ⌝ }
-    requires { ⌜ From (shapeOf q .tree) c (shapeOf q .output) ⌝ }
-    ensures { λ r. ⌜ ((C : Shape) × Cut (shapeOf q) c C × (r ≡ patternOf C)) ⌝ }
+    requires { ⌜ From (shapeOf q .tree) (c .0) (shapeOf q .output) ⌝ }
+    ensures { λ r. ⌜ ((C : Shape) × Cut (shapeOf q) (c .0) C × (r ≡ patternOf C)) ⌝ }
 {
     let n = cut_size(q, c);
-    let less = c as u8;
+    let row = c.0 as usize;
     let mut p = Pattern {
-        parent: [0u8; STEPS],
+        parent: [StepNo(0); STEPS],
         axis: [0u8; STEPS],
         label: [0u16; STEPS],
         count: n,
-        output: StepNo(q.output.0 - less),
+        output: StepNo(q.output.0 - c.0),
     };
-    p.parent[0] = 255;
+    p.parent[0] = StepNo(255);
     p.axis[0] = 0;
-    p.label[0] = q.label[c];
+    p.label[0] = q.label[row];
     for t in 1..n {
-        p.parent[t] = q.parent[c + t] - less;
-        p.axis[t] = q.axis[c + t];
-        p.label[t] = q.label[c + t];
+        p.parent[t] = StepNo(q.parent[row + t].0 - c.0);
+        p.axis[t] = q.axis[row + t];
+        p.label[t] = q.label[row + t];
     }
     p
 }
 
 // Do the main paths of a query, from step c up, and of a view have the same labels and axes? Where they do not, nothing serves.
-fn agree(q: Pattern, v: Pattern, c: usize) -> bool
+fn agree(q: Pattern, v: Pattern, c: StepNo) -> bool
     requires { ⌜ ValidPattern q × ValidPattern v ⌝ }
-    requires { ⌜ (length (mainPath (shapeOf v)) ≤ length (mainPath (shapeOf q))) × (c ≡ cutStep (shapeOf q) (shapeOf v)) ⌝ }
-    ensures { λ r. ⌜ (T r → shapeOf v .label (shapeOf v .output) ≡ shapeOf q .label c) × ((E : Pattern) → Serves q v E → T r) ⌝ }
+    requires { ⌜ (length (mainPath (shapeOf v)) ≤ length (mainPath (shapeOf q))) × (c .0 ≡ cutStep (shapeOf q) (shapeOf v)) ⌝ }
+    ensures { λ r. ⌜ (T r → shapeOf v .label (shapeOf v .output) ≡ shapeOf q .label (c .0)) × ((E : Pattern) → Serves q v E → T r) ⌝ }
 {
     let mut s = c;
-    let mut t = v.output.0 as usize;
+    let mut t = v.output;
     loop {
-        if q.label[s] != v.label[t] || q.axis[s] != v.axis[t] {
+        let a = s.0 as usize;
+        let b = t.0 as usize;
+        if q.label[a] != v.label[b] || q.axis[a] != v.axis[b] {
             return false;
         }
-        if t == 0 {
+        if b == 0 {
             return true;
         }
-        s = q.parent[s] as usize;
-        t = v.parent[t] as usize;
+        s = q.parent[a];
+        t = v.parent[b];
     }
 }
 

@@ -22,7 +22,7 @@ long : (x : tie.Else1) → length (mainPath (shapeOf (x .before .before .before 
 long x = omega arith
 
 -- the step found is the cut step
-placed : (x : tie.After-main-step) → x .main-step .result ≡ cutStep (shapeOf (entry x .args .q)) (shapeOf (entry x .args .v))
+placed : (x : tie.After-main-step) → x .main-step .result .0 ≡ cutStep (shapeOf (entry x .args .q)) (shapeOf (entry x .args .v))
 unfolding cutStep
 placed x =
     x .main-step .ensures
@@ -32,7 +32,7 @@ placed x =
     (omega (arith, long (x .before), main-length (entry x .pre .1)))
 
 -- and the output step is at or below it
-above : (x : tie.After-main-step) → From (shapeOf (entry x .args .q) .tree) (x .main-step .result) (shapeOf (entry x .args .q) .output)
+above : (x : tie.After-main-step) → From (shapeOf (entry x .args .q) .tree) (x .main-step .result .0) (shapeOf (entry x .args .q) .output)
 above x = subst (λ s. From (shapeOf (entry x .args .q) .tree) s (shapeOf (entry x .args .q) .output)) (sym (placed x))
     (cut-on-path (entry x .pre .0) (entry x .pre .1) (long (x .before)) .0)
 

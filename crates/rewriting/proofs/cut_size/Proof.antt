@@ -8,24 +8,24 @@ use Rattle.rewriting.proofs.cut_size.Statement.{statement}
 use Rattle.rewriting.proofs.cut_size.Tie as tie
 
 abbrev Inv-loop : tie.InvT-loop
-Inv-loop c p n u₀ u = Taken (shapeOf p .tree) c u
+Inv-loop c p n row u₀ u = Taken (shapeOf p .tree) (c .0) u
 
 abbrev μ-loop : tie.MeasureT-loop
-μ-loop c p n u₀ u = n - u
+μ-loop c p n row u₀ u = n - u
 
 loop-holds : tie.Need-loop-holds Inv-loop μ-loop
-loop-holds c = taken-one (shapeOf (c .args .t1) .tree) (c .args .c) (c .pre .1)
+loop-holds c = let s = c .before in taken-one (shapeOf (s .args .t1) .tree) (s .args .c .0) (s .pre .1)
 
 returns : tie.Need-returns Inv-loop μ-loop
-returns c = taken-stop (shape-ordered (c .before .before .before .before .pre .0)) (c .before .before .before .loop .inv) (c .if1 .taken)
+returns c = let l = c .before .before .before in taken-stop (shape-ordered (l .before .before .pre .0)) (l .loop .inv) (c .if1 .taken)
 
 loop-again : tie.Need-loop-again Inv-loop μ-loop
-loop-again c = taken-next (shape-ordered (c .before .before .before .before .pre .0)) (c .before .before .before .loop .inv)
+loop-again c = let l = c .before .before .before in taken-next (shape-ordered (l .before .before .pre .0)) (l .loop .inv)
     (c .before .before .loop-test .taken) (c .if1 .left)
 
 returns-2 : tie.Need-returns-2 Inv-loop μ-loop
-returns-2 c = taken-end (shape-ordered (c .before .before .pre .0)) (c .before .loop .inv) (c .loop-test .left)
+returns-2 c = taken-end (shape-ordered (c .before .before .before .pre .0)) (c .before .loop .inv) (c .loop-test .left)
 
 pub cut-size-spec : {M : Type 1} → statement M
-cut-size-spec = tie.close (tie.spec Inv-loop μ-loop (λ c. search needs) loop-holds (λ c. search needs) (λ c. search needs) (λ c. search needs) returns
+cut-size-spec = tie.close (tie.spec Inv-loop μ-loop (λ c. search needs) (λ c. search needs) loop-holds (λ c. search needs) (λ c. search needs) returns
     (λ c. search needs) (λ c. search needs) loop-again (λ c. search needs) returns-2)

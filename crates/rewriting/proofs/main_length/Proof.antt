@@ -8,23 +8,26 @@ use Rattle.rewriting.proofs.main_length.Statement.{statement}
 use Rattle.rewriting.proofs.main_length.Tie as tie
 
 abbrev Inv-loop : tie.InvT-loop
-Inv-loop p s₀ k₀ s k = Climbed (shapeOf p) s k
+Inv-loop p s₀ k₀ s k = Climbed (shapeOf p) (s .0) k
 
 abbrev μ-loop : tie.MeasureT-loop
-μ-loop p s₀ k₀ s k = s
+μ-loop p s₀ k₀ s k = s .0
 
 loop-holds : tie.Need-loop-holds Inv-loop μ-loop
-loop-holds c = climbed-none (shapeOf (c .args .t1))
+loop-holds c = climbed-none (shapeOf (c .before .args .t1))
 
 loop-less : tie.Need-loop-less Inv-loop μ-loop
-loop-less c = climbed-up (c .before .before .before .pre) (c .before .before .loop .inv) (c .before .loop-test .taken) .0
+loop-less c =
+    let l = c .before .before .before .before in climbed-up (l .before .before .pre) (l .loop .inv) (c .before .before .if1 .taken) .0
 
 loop-again : tie.Need-loop-again Inv-loop μ-loop
-loop-again c = climbed-up (c .before .before .before .pre) (c .before .before .loop .inv) (c .before .loop-test .taken) .1
+loop-again c =
+    let l = c .before .before .before .before in climbed-up (l .before .before .pre) (l .loop .inv) (c .before .before .if1 .taken) .1
 
 returns : tie.Need-returns Inv-loop μ-loop
-returns c = omega (arith, main-length (c .before .before .pre), climbed-all (c .before .before .pre) (c .before .loop .inv) (omega arith))
+returns c = let l = c .before .before in
+    omega (arith, main-length (l .before .before .pre), climbed-all (l .before .before .pre) (l .loop .inv) (omega arith))
 
 pub main-length-spec : {M : Type 1} → statement M
-main-length-spec = tie.close (tie.spec Inv-loop μ-loop (λ c. search needs) loop-holds (λ c. search needs) (λ c. search needs) (λ c. search needs)
-    loop-less loop-again (λ c. search needs) returns)
+main-length-spec = tie.close (tie.spec Inv-loop μ-loop loop-holds (λ c. search needs) (λ c. search needs) (λ c. search needs) loop-less
+    loop-again (λ c. search needs) returns)
