@@ -61,8 +61,8 @@ pub fn copy_packet(pattern: &[u8], room: &mut [u8]) -> Counted
 {
     let x = packets::read_pattern(pattern);
     let read = x.answer;
-    if let Checked::Refused(r) = read {
-        return Counted::Refused(r);
+    if let Checked::Refused(why) = read {
+        return Counted::Refused(why);
     }
     packets::write_pattern(x.pattern, room)
 }
