@@ -78,7 +78,8 @@ fn place_turns(
     work: &mut [u64],
     list: &mut [u16],
 ) -> usize
-    requires { ⌜ (output .0 < 64) × (length (now parents) ≤ 2048) × (2 * length (now parents) ≤ length (now work)) × (length (now parents) ≤ length (now list)) ⌝ }
+    requires { ⌜ (output .0 < 64) × (length (now parents) ≤ 2048) × (2 * length (now parents) ≤ length (now work))
+        × (length (now parents) ≤ length (now list)) ⌝ }
     requires { ⌜ ((i : ℕ) → 0 < i → i < length (now parents) → getD (now parents) i 0 < i) ⌝ }
     ensures { λ r. ⌜ ((A : Shape) (labels : List ℕ) → ValidDocument (documentOf (now (parents .entry)) labels) → DownPlan A (now (table .entry)) sets →
         A .output ≡ output .0 → Ready A (documentOf (now (parents .entry)) labels) (now (work .entry)) → Found A

@@ -74,7 +74,7 @@ module _ (B A : Shape) (vb : ValidShape B) (va : ValidShape A) where
 
     -- and it is picked
     module _ (r : ℕ) (p : Picks (ImageAt A fit k (B .axis k) (f q)) r) where
-      pub image-found : r < 64
+      image-found : r < 64
       image-found = pick-some p (image-there .0) (image-there .1)
 
       goes-here : (a j : ℕ) → Goes (rowsOf A) a (f q) j → j < A .tree .size

@@ -30,8 +30,7 @@ pub(crate) fn own_node(a: Pattern, s: StepNo) -> NodeNo
     ensures { λ r. ⌜ r ≡ nodeNo (ownNode (shapeOf a) (s .0)) ⌝ }
 {
     let k = s.0 as usize;
-    let node = k + descendants_before(a, k + 1);
-    NodeNo(node as u16)
+    NodeNo((k + descendants_before(a, k + 1)) as u16)
 }
 
 // The nodes of one step from place m on: a fresh node of label l first, where the axis is descendant, then the step's own. The place after them.

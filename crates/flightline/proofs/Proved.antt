@@ -1,6 +1,6 @@
 -- Cases 1 to 11 of flight line seven hold, in the terms of the definitions: the whole table is proved by one computation. Assumes nothing.
 use lib.Dec.{T}
-use Rattle.tables.specs.Column.{blocks}
+use Rattle.tables.specs.Column.{blocks, stepArray}
 use Rattle.tables.specs.Document.{ValidDocument}
 use Rattle.tables.specs.Pattern.{tableOf, patternOf}
 use Rattle.tables.proofs.TreeTests.{isChild, climbs, isBelow, isFrom, hangsRight}
@@ -32,10 +32,10 @@ line-valid = tells-document line .says tt
 -- the table passes
 cases-pass : T (testAll line cases)
 unfolding cases line view posed controlled topStrip nestedStrips framePosed linePoses lineStrips stripPoses twoFrames oneFrame viewWitness pattern patternOf
-    tableOf blocks test testAll isPattern stepRight isLabel hangsRight isFrom isBelow climbs isChild every some sameList samePattern sameDocument stepBytes
-    patternPacket packetShape firstFrom pick chosen best passing can canSend wholeTo canWhole labelFits takes begins isIn isStartList answersOf entriesOf
-    workingOf mask descendants ownNode hook parentsFor labelsFor witnessOf mapsInto leastMapping standsIn isFree freshLabel renumber byPart joinShape joinOf
-    pathTo mainPath cutStep howMany cutShape candidateOf hasCandidate joinEqual rewritable
+    tableOf blocks stepArray test testAll isPattern stepRight isLabel hangsRight isFrom isBelow climbs isChild every some sameList samePattern sameDocument
+    stepBytes patternPacket packetShape firstFrom pick chosen best passing can canSend wholeTo canWhole labelFits takes begins isIn isStartList answersOf
+    entriesOf workingOf mask descendants ownNode hook parentsFor labelsFor witnessOf mapsInto leastMapping standsIn isFree freshLabel renumber byPart joinShape
+    joinOf pathTo mainPath cutStep howMany cutShape candidateOf hasCandidate joinEqual rewritable
 cases-pass = tt
 
 -- the flight line obeys the rules, and the table holds

@@ -59,8 +59,8 @@ fn fits(
 fn hand_up(fit: &mut [u64; STEPS], under: &mut [u64; STEPS], i: StepNo, p: StepNo, f: u64, g: u64)
     requires { ⌜ (p .0 < i .0) × (i .0 < 64) × (length (now fit) ≡ 64) × (length (now under) ≡ 64) ⌝ }
     ensures sizes { λ _. ⌜ (length (now (fit .exit)) ≡ 64) × (length (now (under .exit)) ≡ 64) ⌝ }
-    ensures turn { λ _. ⌜ Turned (i .0) (p .0) f g (getD (now (under .entry)) (i .0) 0) (entries (now (fit .entry))) (entries (now (under .entry))) (entries (now (fit .exit)))
-        (entries (now (under .exit))) ⌝ }
+    ensures turn { λ _. ⌜ Turned (i .0) (p .0) f g (getD (now (under .entry)) (i .0) 0) (entries (now (fit .entry))) (entries (now (under .entry)))
+        (entries (now (fit .exit))) (entries (now (under .exit))) ⌝ }
 {
     let own = i.0 as usize;
     let over = p.0 as usize;

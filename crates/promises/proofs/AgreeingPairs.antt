@@ -44,8 +44,7 @@ module _ {A A′ B B′ : Shape} (e : Agree A A′) (f : Agree B B′) (a : 0 < 
   pub least-alike : (m : ℕ → ℕ) → LeastMap B A m → LeastMap B′ A′ m
   least-alike m h = record {
     maps = maps-alike e f a b m (h .maps);
-    least = λ n k. subst (NoLater m n) (f .size)
-        (h .least n (maps-alike (agree-sym e) (agree-sym f) (omega (arith, e .size)) (omega (arith, f .size)) n k));
+    least = λ n k. subst (NoLater m n) (f .size) (h .least n (maps-alike (agree-sym e) (agree-sym f) (omega (arith, e .size)) (omega (arith, f .size)) n k));
   }
 
 -- the fresh label
@@ -88,8 +87,7 @@ module _ {A B : Shape} (e : Agree A B) where
     -- the witness
     pub witness-alike : (l : ℕ) → witnessOf A l ≡ witnessOf B l
     unfolding witnessOf parentsFor labelsFor
-    witness-alike l = ap₂ documentOf
-        (blocks-ext (parentsFor A) (parentsFor B) (A .tree .size)
+    witness-alike l = ap₂ documentOf (blocks-ext (parentsFor A) (parentsFor B) (A .tree .size)
         (λ s k. cc (e .axis s k, hook-alike s k, descendants-alike s (omega arith))) ∙ ap (blocks (parentsFor B)) (e .size))
         (blocks-ext (labelsFor A l) (labelsFor B l) (A .tree .size) (λ s k. cc (e .axis s k, e .label s k)) ∙ ap (blocks (labelsFor B l)) (e .size))
 
@@ -107,8 +105,7 @@ module _ {U U′ E E′ : Shape} (e : Agree U U′) (f : Agree E E′) (u : Vali
   join-agree : Agree (joinShape U E) (joinShape U′ E′)
   unfolding joinShape
   join-agree =
-      let o = e .output in
-      let a : added E ≡ added E′ = ap (λ n. n - 1) (f .size) in
+      let o = e .output in let a : added E ≡ added E′ = ap (λ n. n - 1) (f .size) in
       record {
         size = ap₂ (λ m n. m + n) (e .size) a;
         output = ap₂ (λ m n. m + n) o (f .output);

@@ -65,7 +65,8 @@ module _ {p q : Pattern} (e : SameSteps p q) where
       (reaches-alike a (begins-alike a (v .0 .some))) (reaches-alike b (begins-alike b (valid-alike e .0 (v .0) .some))) (e .count) l₀ w₀ c l w)
 
   -- its started form
-  pub started-fit : (d : Document) (starts l₀ w₀ : List ℕ) (r : Counted) (l w : List ℕ) → FindsStarted p d starts l₀ w₀ r l w → FindsStarted q d starts l₀ w₀ r l w
+  pub started-fit : (d : Document) (starts l₀ w₀ : List ℕ) (r : Counted) (l w : List ℕ) → FindsStarted p d starts l₀ w₀ r l w → FindsStarted q d starts l₀ w₀
+      r l w
   started-fit d starts l₀ w₀ r l w =
       let a = same-agree e in let b = agree-sym a in
       counted-alike (startedChecks p d starts (length l₀) (length w₀)) (startedChecks q d starts (length l₀) (length w₀)) r _ _ _ (
@@ -74,11 +75,7 @@ module _ {p q : Pattern} (e : SameSteps p q) where
         λ v. (
           (λ x. x, λ x. x),
           refl,
-          λ x. (
-            (λ y. (sym (e .axis 0 (v .some)) ∙ y .0, y .1), λ y. (e .axis 0 (v .some) ∙ y .0, y .1)),
-            refl,
-            λ y. ((λ z. z, λ z. z), refl, λ z. tt),
-          ),
+          λ x. ((λ y. (sym (e .axis 0 (v .some)) ∙ y .0, y .1), λ y. (e .axis 0 (v .some) ∙ y .0, y .1)), refl, λ y. ((λ z. z, λ z. z), refl, λ z. tt)),
         ),
       )
       (λ v c. found-alike {First = In starts} {Other = In starts} (e .output) (fits-alike a d) (fits-alike b d)
@@ -124,8 +121,7 @@ module _ {A A′ B B′ : Pattern} (e : SameSteps A A′) (f : SameSteps B B′)
         passes-alike (containmentChecks A B (length parents₀) (length labels₀)) (containmentChecks A′ B′ (length parents₀) (length labels₀))
             (contains-checks (length parents₀) (length labels₀)) (h .0),
         record {
-          not-contained = λ z. k .not-contained
-              (contained-alike (agree-sym x) (agree-sym y) (valid-alike e .0 u .some) (valid-alike f .0 v .some) z);
+          not-contained = λ z. k .not-contained (contained-alike (agree-sym x) (agree-sym y) (valid-alike e .0 u .some) (valid-alike f .0 v .some) z);
           label = k .label;
           fresh = fresh-alike x y (k .label) (k .fresh);
           count = k .count ∙ size-alike x;
@@ -192,8 +188,7 @@ module _ {A A′ B B′ : Pattern} (e : SameSteps A A′) (f : SameSteps B B′)
 serves-alike : {Q Q′ U U′ : Pattern} → SameSteps Q Q′ → SameSteps U U′ → ValidPattern Q → (E : Pattern) → Serves Q U E → Serves Q′ U′ E
 serves-alike {Q} {Q′} {U} {U′} e f v E h =
     let same : SameSteps E E = record { count = refl; output = refl; parent = λ s l. refl; axis = λ s l. refl; label = λ s l. refl } in
-    let j = join-alike f same (h .joinable .0) (h .joinable .1 .0) in
-    let x = same-agree e in
+    let j = join-alike f same (h .joinable .0) (h .joinable .1 .0) in let x = same-agree e in
     record {
       joinable = passes-alike (joinChecks U E) (joinChecks U′ E) (join-checks f same) (h .joinable);
       equal = subst (λ (p : Pattern). Equal (shapeOf p) (shapeOf Q′)) j (record {

@@ -52,7 +52,8 @@ module _ {A A′ B B′ : Pattern} (e : SameSteps A A′) (f : SameSteps B B′)
       → DecidesContainment A B parents₀ labels₀ r parents labels → DecidesContainment A′ B′ parents₀ labels₀ s parents′ labels′
       → (r ≡ s) × (parents ≡ parents′) × (labels ≡ labels′)
   contains-unread parents₀ labels₀ r s parents labels parents′ labels′ h k =
-      containment-unique A′ B′ parents₀ labels₀ r s parents labels parents′ labels′ (contains-fit e f parents₀ labels₀ (r .answer) (r .mapping) parents labels h) k
+      containment-unique A′ B′ parents₀ labels₀ r s parents labels parents′ labels′
+      (contains-fit e f parents₀ labels₀ (r .answer) (r .mapping) parents labels h) k
 
   -- equality
   pub equal-unread : (r s : Equality) → DecidesEquality A B r → DecidesEquality A′ B′ s → r ≡ s

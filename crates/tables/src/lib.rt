@@ -203,8 +203,7 @@ pub fn check_pattern(p: Pattern) -> Checked
     ensures { λ r. ⌜ ChecksPattern p r ⌝ }
 {
     let n = p.count;
-    let output = p.output.0 as usize;
-    if n == 0 || STEPS < n || n <= output {
+    if n == 0 || STEPS < n || n <= p.output.0 as usize {
         return Checked::Refused(Refusal::BadPattern);
     }
     let steps = p.parent;

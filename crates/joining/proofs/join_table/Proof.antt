@@ -91,8 +91,7 @@ loop3-again c =
     let a = m .before .before .before .before .before .before .before .before .args in let v = a .t1 in
     let e : ℕ = a .t2 .count - 1 in let o : ℕ = v .output .0 in
     let s : ℕ = m .loop3 .u - e in let q : ℕ = getD (v .parent) s (stepNo 0) .0 in
-    let l = m .loop3 .inv .0 in
-    let number : StepNo → ℕ = λ x. x .0 in
+    let l = m .loop3 .inv .0 in let number : StepNo → ℕ = λ x. x .0 in
     let z : number (c .before .before .if1 .q) ≡ renumber o e q = ⊎-elim (λ w. omega (arith, ap number (w .2), renumber-high o e q (omega arith)))
     (λ w. omega (arith, ap number (w .1), renumber-low o e q (omega arith))) (c .before .before .if1 .came) in (
       omega arith,

@@ -19,9 +19,7 @@ abbrev μ-loop : tie.MeasureT-loop
 
 -- step c is one of the pattern's, and not past the output step
 low : (x : tie.Start Inv-loop μ-loop) → (x .args .c .0 < x .args .t1 .count) × (x .args .c .0 ≤ x .args .t1 .output .0)
-low x =
-    let q = x .args .t1 in let c = x .args .c .0 in
-    (cut-here q (x .pre .0) c (x .pre .1), omega (arith, cut-is q (x .pre .0) c (x .pre .1) .output))
+low x = let q = x .args .t1 in let c = x .args .c .0 in (cut-here q (x .pre .0) c (x .pre .1), omega (arith, cut-is q (x .pre .0) c (x .pre .1) .output))
 
 -- the number of steps is the cut's
 sized : (x : tie.After-cut-size Inv-loop μ-loop) → x .cut-size .result ≡ cutShape (shapeOf (x .before .args .t1)) (x .before .args .c .0) .tree .size

@@ -17,12 +17,10 @@ loop-holds : tie.Need-loop-holds Inv-loop μ-loop
 loop-holds c = climbed-none (shapeOf (c .before .args .t1))
 
 loop-less : tie.Need-loop-less Inv-loop μ-loop
-loop-less c =
-    let l = c .before .before .before .before in climbed-up (l .before .before .pre) (l .loop .inv) (c .before .before .if1 .taken) .0
+loop-less c = let l = c .before .before .before .before in climbed-up (l .before .before .pre) (l .loop .inv) (c .before .before .if1 .taken) .0
 
 loop-again : tie.Need-loop-again Inv-loop μ-loop
-loop-again c =
-    let l = c .before .before .before .before in climbed-up (l .before .before .pre) (l .loop .inv) (c .before .before .if1 .taken) .1
+loop-again c = let l = c .before .before .before .before in climbed-up (l .before .before .pre) (l .loop .inv) (c .before .before .if1 .taken) .1
 
 returns : tie.Need-returns Inv-loop μ-loop
 returns c = let l = c .before .before in

@@ -1,5 +1,5 @@
 -- `tables::bare_numbers` meets its contract: the numbers of the steps before the one looked at are taken. Assumes nothing.
-use Prim.Native.Nat.{ℕ, _-_, _≤_}
+use Prim.Native.Nat.{_-_, _≤_}
 use mathlib.Core.Path.{_≡_, refl, _∙_}
 use Rattle.tables.specs.Column.{blocks, padded, stepNo}
 use lib.ListN.{getD}

@@ -21,7 +21,7 @@ abbrev pattern : tie.After-bare-numbers → Pattern
 pattern x = x .before .before .before .before .before .before .args .p
 
 few : (x : tie.After-bare-numbers) → pattern x .count ≤ 64
-few x = ltb-false 64 (pattern x .count) (x .before .before .before .if2 .left)
+few x = ltb-false 64 (pattern x .count) (x .before .before .before .before .if2 .left)
 
 long : (x : tie.After-bare-numbers) → (length (x .bare-numbers .result) ≡ 64) × (length (pattern x .axis) ≡ 64) × (length (pattern x .label) ≡ 64)
 long x = (search needs, search needs, search needs)
@@ -36,9 +36,9 @@ steps x = steps-valid (pattern x) (x .bare-numbers .result) (pattern x .count) (
 
 returns : tie.Need-returns
 returns c =
-    let p = c .before .before .args .p in
+    let p = c .before .args .p in
     refused BadPattern (λ v. ⊎-elim (λ t. omega (arith, v .some)) (⊎-elim (λ t. omega (arith, v .few, ltb-true 64 (p .count) (t .1 .taken)))
-    (λ t. omega (arith, v .output, leb-true (p .count) (p .output .0) (t .2 .taken)))) (c .if1 .came))
+    (λ t. omega (arith, v .output, leb-true (p .count) (p .output .0) (t .3 .taken)))) (c .if1 .came))
 
 pub check-pattern-spec : {M : Type 1} → statement M
 check-pattern-spec = tie.close (tie.spec (λ c. search needs) returns

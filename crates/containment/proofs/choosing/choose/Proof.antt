@@ -15,7 +15,7 @@ use Rattle.tables.proofs.Trees.{parent-lt}
 use Rattle.placing.proofs.Fit.{able-ok}
 use Rattle.mappings.specs.Fits.{Picks, ImageAt}
 use Rattle.mappings.proofs.StepFits.{mapTask}
-use Rattle.containment.proofs.Greedily.{mapping-one, mapping-more, Chose, chose-start, chose-more, image-there, image-found, chose-end}
+use Rattle.containment.proofs.Greedily.{mapping-one, mapping-more, Chose, chose-start, chose-more, image-there, chose-end}
 use Rattle.containment.proofs.choosing.choose.Statement.{statement}
 use Rattle.containment.proofs.choosing.choose.Tie as tie
 
