@@ -87,10 +87,10 @@ fn place_turns(
         (now (list .exit)) (now (work .exit))) ⌝ }
 {
     let mut allowed = [0u64; NODES];
-    let n = parents.len();
+    let n = parents.len() as u16;
     let mut c = 0;
     for i in 0..n {
-        let node = NodeNo(i as u16);
+        let node = NodeNo(i);
         let whole = place_turn(table, sets, parents, node, work, &mut allowed);
         c = marking::note(list, c, node, whole, output);
     }

@@ -88,11 +88,12 @@ fn fit_turns(
         → FitTable B (shapeOf a) (now (fit .exit))) ⌝ }
 {
     let mut under = [0u64; STEPS];
-    let mut i = a.count;
+    let mut i = a.count as u8;
     while 1 < i {
         i -= 1;
-        let s = StepNo(i as u8);
-        let l = a.label[i];
+        let s = StepNo(i);
+        let row = i as usize;
+        let l = a.label[row];
         let f = fits(
             low,
             high,
@@ -103,11 +104,11 @@ fn fit_turns(
             output,
             l,
             s.0 == a.output.0,
-            fit[i],
-            under[i],
+            fit[row],
+            under[row],
         );
-        let g = along(a.axis[i], f);
-        hand_up(fit, &mut under, s, a.parent[i], f, g);
+        let g = along(a.axis[row], f);
+        hand_up(fit, &mut under, s, a.parent[row], f, g);
     }
     fit[0] = fits(
         low,

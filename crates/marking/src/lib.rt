@@ -91,12 +91,13 @@ fn fit_turns(
     ensures { λ _. ⌜ ((A : Shape) → TablePlan A (now (low .entry)) (now (high .entry)) (now (table .entry)) sets → Fitted A
         (documentOf (now (parents .entry)) (now (labels .entry))) seed (now (work .entry)) (now (work .exit))) ⌝ }
 {
-    let mut i = parents.len();
+    let mut i = parents.len() as u16;
     while 1 < i {
         i -= 1;
-        let below = work[2 * i + 1];
-        let fit = plan::fits(low, high, table, sets, labels[i], work[2 * i], below);
-        hand_up(work, NodeNo(i as u16), NodeNo(parents[i]), fit, below, seed);
+        let row = i as usize;
+        let below = work[2 * row + 1];
+        let fit = plan::fits(low, high, table, sets, labels[row], work[2 * row], below);
+        hand_up(work, NodeNo(i), NodeNo(parents[row]), fit, below, seed);
     }
     work[0] = plan::fits(low, high, table, sets, labels[0], work[0], work[1]);
     work[1] = seed;

@@ -131,8 +131,9 @@ pub fn check_document(parents: &[u16], labels: &[u16]) -> Checked
     if n == 0 || NODES < n || labels.len() != n {
         return Checked::Refused(Refusal::BadDocument);
     }
-    for i in 0..n {
-        if !node_right(parents, labels, NodeNo(i as u16)) {
+    let end = n as u16;
+    for i in 0..end {
+        if !node_right(parents, labels, NodeNo(i)) {
             return Checked::Refused(Refusal::BadDocument);
         }
     }
@@ -188,12 +189,11 @@ fn steps_right(parents: &[u8], axes: &[u8], labels: &[u16]) -> bool
     ensures { λ r. ⌜ T r ↔ ((s : ℕ) → s < length (now (parents .entry))
         → StepRule (stepsOf (now (parents .entry)) (now (axes .entry)) (now (labels .entry))) s) ⌝ }
 {
-    let mut s = 0;
-    while s < parents.len() {
-        if !step_right(parents, axes, labels, StepNo(s as u8)) {
+    let n = parents.len() as u8;
+    for s in 0..n {
+        if !step_right(parents, axes, labels, StepNo(s)) {
             return false;
         }
-        s += 1;
     }
     true
 }

@@ -80,10 +80,9 @@ returns c =
     (up-fits A _ (p .sets-of .valid) v (s .args .seed) 0 _ (m .loop .work) (v .some) u _ (c .fits3 .ensures A p)) (room m)
 
 pub fit-turns-spec : {M : Type 1} → statement M
-fit-turns-spec = tie.close (tie.spec Inv-loop μ-loop loop-holds (λ c. omega arith) (λ c. omega arith) (λ c. omega arith) (λ c. omega arith)
-    slice-read-below (λ c. omega arith) shared-slice-read-fits (λ c. omega arith) (λ c. omega arith) slice-read-fits (λ c κs. tt)
-    (λ c. omega (arith, c .before .before .before .before .before .before .before .before .before .before .pre .0 .few)) (λ c. omega arith)
-    (λ c. omega arith) hand-up-requires (λ c. omega arith) loop-again shared-slice-read-fits-2
-    (λ c. omega (arith, room (c .before .before .before))) (λ c. room (c .before .before .before .before)) (λ c κs. tt)
-    (λ c. omega (arith, room (c .before .before .before .before .before))) (λ c. simp length-set (room (c .before .before .before .before .before)))
-    same-length returns)
+fit-turns-spec = tie.close (tie.spec Inv-loop μ-loop (λ c. omega (arith, c .before .before .before .pre .0 .few)) loop-holds (λ c. omega arith)
+    (λ c. omega arith) (λ c. omega arith) (λ c. omega arith) (λ c. omega arith) slice-read-below (λ c. omega arith) shared-slice-read-fits
+    (λ c. omega arith) (λ c. omega arith) slice-read-fits (λ c κs. tt) (λ c. omega arith) (λ c. omega arith) hand-up-requires (λ c. omega arith)
+    loop-again shared-slice-read-fits-2 (λ c. omega (arith, room (c .before .before .before))) (λ c. room (c .before .before .before .before))
+    (λ c κs. tt) (λ c. omega (arith, room (c .before .before .before .before .before)))
+    (λ c. simp length-set (room (c .before .before .before .before .before))) same-length returns)

@@ -16,10 +16,14 @@ use Rattle.tables.proofs.check_document.Statement.{statement}
 use Rattle.tables.proofs.check_document.Tie as tie
 
 abbrev Inv-loop : tie.InvT-loop
-Inv-loop parents labels n i₀ i = (i ≤ n) × (length labels ≡ length parents) × ((k : ℕ) → k < i → NodeRule (documentOf parents labels) k)
+Inv-loop parents labels n end i₀ i = (i ≤ n) × (length labels ≡ length parents) × ((k : ℕ) → k < i → NodeRule (documentOf parents labels) k)
 
 abbrev μ-loop : tie.MeasureT-loop
-μ-loop parents labels n i₀ i = n - i
+μ-loop parents labels n end i₀ i = n - i
+
+-- past the second test there are at most 2,048 nodes
+few : (x : tie.Else2 Inv-loop μ-loop) → length (now (x .before .before .before .before .args .parents)) ≤ 2048
+few x = ltb-false 2048 (length (now (x .before .before .before .before .args .parents))) (x .if2 .left)
 
 returns : tie.Need-returns Inv-loop μ-loop
 returns c =
@@ -39,17 +43,13 @@ returns-2 c =
 
 returns-3 : tie.Need-returns-3 Inv-loop μ-loop
 returns-3 c =
-    let few = ltb-false 2048 (length (now (c .before .before .before .before .before .before .before .args .parents))) (c .before .before .before .if2 .left) in
-    ((record { some = omega arith; few = few; equal = c .before .loop .inv .1; nodes = λ i l. c .before .loop .inv .2 i (omega arith) }, tt), tt)
+    let i = c .before .loop .inv in
+    ((record { some = omega arith; few = few (c .before .before .before); equal = i .1; nodes = λ k l. i .2 k (omega arith) }, tt), tt)
 
 pub check-document-spec : {M : Type 1} → statement M
-check-document-spec = tie.close (tie.spec Inv-loop μ-loop returns loop-holds
-    (λ c. omega (
-      arith,
-      ltb-false 2048 (length (now (c .before .before .before .before .before .before .before .args .parents)))
-          (c .before .before .before .if2 .left),
-    ))
-    (λ c κs. ((omega arith, c .before .loop .inv .1), c .before .loop .inv .2)) returns-2 (λ c. search needs) (λ c. search needs)
+check-document-spec = tie.close (tie.spec Inv-loop μ-loop returns (λ c. omega (arith, few (c .before))) loop-holds
+    (λ c κs. ((omega arith, c .before .loop .inv .1), c .before .loop .inv .2)) returns-2 (λ c. omega (arith, few (c .before .before .before .before .before)))
+    (λ c. search needs)
     (λ c. (
       omega arith,
       c .before .before .before .loop .inv .1,

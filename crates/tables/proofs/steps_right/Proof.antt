@@ -11,10 +11,10 @@ use Rattle.tables.proofs.steps_right.Statement.{statement}
 use Rattle.tables.proofs.steps_right.Tie as tie
 
 abbrev Inv-loop : tie.InvT-loop
-Inv-loop parents axes labels s₀ s = (s ≤ length parents) × ((k : ℕ) → k < s → StepRule (stepsOf parents axes labels) k)
+Inv-loop parents axes labels n s₀ s = (s ≤ length parents) × ((k : ℕ) → k < s → StepRule (stepsOf parents axes labels) k)
 
 abbrev μ-loop : tie.MeasureT-loop
-μ-loop parents axes labels s₀ s = length parents - s
+μ-loop parents axes labels n s₀ s = n - s
 
 returns : tie.Need-returns Inv-loop μ-loop
 returns c =
@@ -22,8 +22,8 @@ returns c =
     (λ t. absurd t, λ v. failed (h .result) (c .if1 .taken) (h .ensures .1 (v (c .before .before .before .loop .s) (omega arith))))
 
 pub steps-right-spec : {M : Type 1} → statement M
-steps-right-spec = tie.close (tie.spec Inv-loop μ-loop (λ c. (omega arith, λ k l. absurd (omega arith)))
-    (λ c. search needs) (λ c κs. ((omega arith, omega arith, omega arith), c .before .loop .inv .1))
+steps-right-spec = tie.close (tie.spec Inv-loop μ-loop (λ c. search needs) (λ c. (omega arith, λ k l. absurd (omega arith)))
+    (λ c κs. ((omega arith, omega arith, omega arith), c .before .loop .inv .1))
     returns (λ c. search needs) (λ c. search needs)
     (λ c. (
       omega arith,

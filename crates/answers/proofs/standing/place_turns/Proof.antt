@@ -78,6 +78,5 @@ returns c =
     listed-found A _ (Marked (now (s .args .work))) (k .sets-of .valid) _ _ _ _ _ _ (u .1) (u .0)
 
 pub place-turns-spec : {M : Type 1} → statement M
-place-turns-spec = tie.close (tie.spec Inv-loop μ-loop loop-holds (λ c. omega (arith, c .before .before .before .before .before .pre .0 .1))
-    place-turn-requires note-requires (λ c. omega arith) (λ c. omega arith) loop-again
-    (λ c. c .before .loop .inv .2) (λ c. c .before .loop .inv .3) returns)
+place-turns-spec = tie.close (tie.spec Inv-loop μ-loop (λ c. omega (arith, c .before .before .before .pre .0 .1)) loop-holds place-turn-requires
+    note-requires (λ c. omega arith) (λ c. omega arith) loop-again (λ c. c .before .loop .inv .2) (λ c. c .before .loop .inv .3) returns)
