@@ -9,4 +9,5 @@ pub mod Agreeing
 pub mod AgreeingPairs
 pub mod Starting
 pub mod Moved
+pub mod MovedPairs
 pub mod Unread

@@ -25,7 +25,8 @@ use Rattle.rewriting.specs.Rewriting.{Rewrites}
 use Rattle.rewriting.specs.declared.RewritingAnswer.{RewritingAnswer}
 use Rattle.rewriting.proofs.Unique.{rewrites-unique}
 use Rattle.promises.specs.SameSteps.{SameSteps}
-use Rattle.promises.proofs.Moved.{check-fit, write-fit, answers-fit, started-fit, contains-fit, equal-fit, join-fit, rewrite-fit}
+use Rattle.promises.proofs.Moved.{check-fit, write-fit, answers-fit, started-fit}
+use Rattle.promises.proofs.MovedPairs.{contains-fit, equal-fit, join-fit, rewrite-fit}
 
 module _ {p q : Pattern} (e : SameSteps p q) where
   -- the check of a pattern
