@@ -7,10 +7,16 @@ use Rattle.tables.specs.Document.{Document}
 use Rattle.tables.specs.Pattern.{shapeOf}
 use Rattle.tables.specs.declared.Counted.{Counted}
 use Rattle.packets.specs.PatternPacket.{packetPattern, patternChecks}
+use Rattle.packets.proofs.DocumentTrip.{reads-document-unique}
 use Rattle.placing.specs.Answer.{Begins, In}
 use Rattle.answers.specs.Answers.{answerChecks, startedChecks}
 use Rattle.answers.proofs.Unique.{one-found}
-use Rattle.packet_lists.specs.Lists.{ListAnswers, ListStarted}
+use Rattle.packet_lists.specs.Lists.{ReadsInto, ListAnswers, ListStarted}
+
+pub reads-into-unique : (bs parents₀ labels₀ : List ℕ) (r q : Counted) (parents parents′ labels labels′ : List ℕ) → ReadsInto bs parents₀ labels₀ r parents
+    labels → ReadsInto bs parents₀ labels₀ q parents′ labels′ → (r ≡ q) × (parents ≡ parents′) × (labels ≡ labels′)
+reads-into-unique bs parents₀ labels₀ r q parents parents′ labels labels′ h k = reads-document-unique bs parents₀ labels₀ r q parents parents′ labels labels′
+    (h .says) (k .says)
 
 pub list-answers-unique : (d : Document) (ps list₀ work₀ : List ℕ) (r q : Counted) (list work list′ work′ : List ℕ) → ListAnswers d ps list₀ work₀ r list work
     → ListAnswers d ps list₀ work₀ q list′ work′

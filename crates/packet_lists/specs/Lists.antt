@@ -8,8 +8,13 @@ use Rattle.tables.specs.Pattern.{shapeOf}
 use Rattle.tables.specs.Refusal.{CountedBy}
 use Rattle.tables.specs.declared.Counted.{Counted}
 use Rattle.packets.specs.PatternPacket.{packetPattern, patternChecks}
+use Rattle.packets.specs.DocumentPacket.{ReadsDocument}
 use Rattle.placing.specs.Answer.{Begins, In}
 use Rattle.answers.specs.Answers.{Found, answerChecks, startedChecks}
+
+-- reading a document packet into two lists is the call of that name
+pub record ReadsInto (bs parents₀ labels₀ : List ℕ) (r : Counted) (parents labels : List ℕ) : Type 0 where
+  pub says : ReadsDocument bs parents₀ labels₀ r parents labels
 
 -- the answers of a packet's pattern: the packet's checks, then those of the Answers call; a refusal leaves both lists as they were
 pub record ListAnswers (d : Document) (ps list₀ work₀ : List ℕ) (r : Counted) (list work : List ℕ) : Type 0 where

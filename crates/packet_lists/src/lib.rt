@@ -1,8 +1,15 @@
 // The calls on a document that stands in two lists, with the pattern as a packet (docs/RULES.md, "From C").
 ghost use Rattle.tables.specs.Document.{documentOf};
-ghost use Rattle.packet_lists.specs.Lists.{ListAnswers, ListStarted};
+ghost use Rattle.packet_lists.specs.Lists.{ReadsInto, ListAnswers, ListStarted};
 use tables::Checked;
 use tables::Counted;
+
+// The document of a packet, in two lists.
+pub fn read_lists(document: &[u8], parents: &mut [u16], labels: &mut [u16]) -> Counted
+    ensures { λ r. ⌜ ReadsInto (now (document .entry)) (now (parents .entry)) (now (labels .entry)) r (now (parents .exit)) (now (labels .exit)) ⌝ }
+{
+    packets::read_document(document, parents, labels)
+}
 
 // The answers of a packet's pattern.
 pub fn list_answers(

@@ -15,12 +15,12 @@ use Rattle.tables.specs.declared.Counted.{Counted}
 use Rattle.tables.specs.declared.Counted.the-variants as counted
 use Rattle.halves.specs.Bytes.{unpacked}
 use Rattle.packets.specs.PatternPacket.{packetPattern, patternChecks, PacketPut}
-use Rattle.packets.specs.DocumentPacket.{nodesIn, packetDocument, documentChecks, ReadsDocument}
+use Rattle.packets.specs.DocumentPacket.{nodesIn, packetDocument, documentChecks}
 use Rattle.placing.specs.Answer.{Begins, In}
 use Rattle.answers.specs.Answers.{Found, answerChecks, startedChecks}
 use Rattle.joining.specs.Join.{joinOf}
 use Rattle.packet_answers.specs.Documents.{AnswersPut, packetChecks, AnswersPackets, startChecks, StartsPackets}
-use Rattle.packet_lists.specs.Lists.{ListAnswers, ListStarted}
+use Rattle.packet_lists.specs.Lists.{ReadsInto, ListAnswers, ListStarted}
 use Rattle.packet_patterns.specs.Contained.{Shown, containsChecks, ContainsPackets}
 use Rattle.packet_patterns.specs.Patterns.{joinsChecks, JoinsPackets, rewritesChecks, Rewritten, RewritesPackets, CopiesPacket}
 use Rattle.station.specs.Code.{codeOf, Coded}
@@ -87,10 +87,10 @@ module _ (r : ℤ) (room₀ room : List ℕ) where
 
 -- the entries with two lists
 module _ (r : ℤ) (xs₀ ys₀ xs ys : List ℕ) where
-  pub read-document-told : (bs : List ℕ) → Coded (λ a. ReadsDocument bs xs₀ ys₀ a xs ys) r → Told (documentChecks bs (length xs₀) (length ys₀))
+  pub read-document-told : (bs : List ℕ) → Coded (λ a. ReadsInto bs xs₀ ys₀ a xs ys) r → Told (documentChecks bs (length xs₀) (length ys₀))
       (λ n. (n ≡ nodesIn bs) × (xs ≡ packetDocument bs .parents ++ drop n xs₀) × (ys ≡ packetDocument bs .labels ++ drop n ys₀))
       ((xs ≡ xs₀) × (ys ≡ ys₀)) r
-  read-document-told bs = told _ _ _ r _ (λ a h. h)
+  read-document-told bs = told _ _ _ r _ (λ a h. h .says)
 
   pub list-answers-told : (d : Document) (ps : List ℕ) → Coded (λ a. ListAnswers d ps xs₀ ys₀ a xs ys) r
       → Told (patternChecks ps ++ answerChecks (packetPattern ps) d (length xs₀) (length ys₀))

@@ -13,7 +13,7 @@ use Rattle.tables.specs.declared.Counted.the-variants as counted
 use Rattle.tables.proofs.Outcomes.{passes-front, passes-rest}
 use Rattle.halves.specs.Bytes.{unpacked}
 use Rattle.packets.specs.PatternPacket.{packetPattern, patternChecks, lengthOf}
-use Rattle.packets.specs.DocumentPacket.{packetDocument, documentRules, listsCheck, ReadsDocument}
+use Rattle.packets.specs.DocumentPacket.{packetDocument, documentRules, listsCheck}
 use Rattle.packets.proofs.Views.{read-of, read-document-of, nodes-few}
 use Rattle.placing.specs.Answer.{Begins, In}
 use Rattle.placing.proofs.Listing.{answers-few}
@@ -21,7 +21,7 @@ use Rattle.answers.specs.Answers.{Found, answerChecks, startedChecks}
 use Rattle.joining.specs.Join.{joinOf, joinShape, joinChecks}
 use Rattle.joining.proofs.Joined.{pair-of}
 use Rattle.packet_answers.specs.Documents.{AnswersPut, nodesRoom, AnswersPackets, startCheck, StartsPackets}
-use Rattle.packet_lists.specs.Lists.{ListAnswers, ListStarted}
+use Rattle.packet_lists.specs.Lists.{ReadsInto, ListAnswers, ListStarted}
 use Rattle.packet_patterns.specs.Contained.{ContainsPackets}
 use Rattle.packet_patterns.specs.Patterns.{JoinsPackets, RewritesPackets, CopiesPacket}
 use Rattle.station.specs.Code.{Small}
@@ -67,10 +67,10 @@ started-small d ps starts list₀ work₀ list work (counted.Count c) h =
 started-small d ps starts list₀ work₀ list work (counted.Refused r) h = tt
 
 -- a document has at most 2,048 nodes
-pub reads-small : (bs parents₀ labels₀ parents labels : List ℕ) (a : Counted) → ReadsDocument bs parents₀ labels₀ a parents labels → Small a
+pub reads-small : (bs parents₀ labels₀ parents labels : List ℕ) (a : Counted) → ReadsInto bs parents₀ labels₀ a parents labels → Small a
 reads-small bs parents₀ labels₀ parents labels (counted.Count c) h =
-    let p = passes-front (documentRules bs) (listsCheck bs (length parents₀) (length labels₀)) (h .0) in
-    omega (arith, h .1 .0, nodes-few (read-document-of bs p .head))
+    let p = passes-front (documentRules bs) (listsCheck bs (length parents₀) (length labels₀)) (h .says .0) in
+    omega (arith, h .says .1 .0, nodes-few (read-document-of bs p .head))
 reads-small bs parents₀ labels₀ parents labels (counted.Refused r) h = tt
 
 -- the counts are small

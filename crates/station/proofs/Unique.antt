@@ -5,12 +5,10 @@ use mathlib.Core.List.{List}
 use lib.IntN.{ℤ}
 use Rattle.tables.specs.Document.{Document}
 use Rattle.tables.specs.declared.Counted.{Counted}
-use Rattle.packets.specs.DocumentPacket.{ReadsDocument}
-use Rattle.packets.proofs.DocumentTrip.{reads-document-unique}
 use Rattle.packet_answers.specs.Documents.{AnswersPackets, StartsPackets}
 use Rattle.packet_answers.proofs.Unique.{answers-packets-unique, starts-packets-unique}
-use Rattle.packet_lists.specs.Lists.{ListAnswers, ListStarted}
-use Rattle.packet_lists.proofs.Unique.{list-answers-unique, list-started-unique}
+use Rattle.packet_lists.specs.Lists.{ReadsInto, ListAnswers, ListStarted}
+use Rattle.packet_lists.proofs.Unique.{reads-into-unique, list-answers-unique, list-started-unique}
 use Rattle.packet_patterns.specs.Contained.{ContainsPackets}
 use Rattle.packet_patterns.specs.Patterns.{JoinsPackets, RewritesPackets, CopiesPacket}
 use Rattle.packet_patterns.proofs.Unique.{joins-packets-unique, rewrites-packets-unique, copies-packet-unique, contains-packets-unique}
@@ -52,8 +50,8 @@ module _ (r q : ℤ) (xs₀ ys₀ xs ys xs′ ys′ : List ℕ) where
   abbrev OneOfLists : (Counted → List ℕ → List ℕ → Type 0) → Type 0
   OneOfLists X = Coded (λ a. X a xs ys) r → Coded (λ a. X a xs′ ys′) q → (r ≡ q) × ((xs ≡ xs′) × (ys ≡ ys′))
 
-  pub read-document-one : (bs : List ℕ) → OneOfLists (ReadsDocument bs xs₀ ys₀)
-  read-document-one bs = coded-unique _ _ r q (λ a b x y. let s = reads-document-unique bs xs₀ ys₀ a b xs xs′ ys ys′ x y in (s .0, (s .1, s .2)))
+  pub read-document-one : (bs : List ℕ) → OneOfLists (ReadsInto bs xs₀ ys₀)
+  read-document-one bs = coded-unique _ _ r q (λ a b x y. let s = reads-into-unique bs xs₀ ys₀ a b xs xs′ ys ys′ x y in (s .0, (s .1, s .2)))
 
   pub list-answers-one : (d : Document) (ps : List ℕ) → OneOfLists (ListAnswers d ps xs₀ ys₀)
   list-answers-one d ps = coded-unique _ _ r q (λ a b x y. let s = list-answers-unique d ps xs₀ ys₀ a b xs ys xs′ ys′ x y in (s .0, (s .1, s .2)))

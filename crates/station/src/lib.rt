@@ -1,11 +1,10 @@
 // The ground station's entries (docs/RULES.md, "From C"): every call on packets and byte slices. An answer is 0 or more; a refusal is minus its number. The
 // functions behind them answer as every call here does; `code` turns their answers into C's number.
 ghost use Rattle.tables.specs.Document.{documentOf};
-ghost use Rattle.packets.specs.DocumentPacket.{ReadsDocument};
 ghost use Rattle.station.specs.Code.{Coded};
 ghost use Rattle.packet_patterns.specs.Contained.{ContainsPackets};
 ghost use Rattle.packet_answers.specs.Documents.{AnswersPackets, StartsPackets};
-ghost use Rattle.packet_lists.specs.Lists.{ListAnswers, ListStarted};
+ghost use Rattle.packet_lists.specs.Lists.{ReadsInto, ListAnswers, ListStarted};
 ghost use Rattle.packet_patterns.specs.Patterns.{JoinsPackets, RewritesPackets, CopiesPacket};
 
 mod code;
@@ -79,10 +78,10 @@ pub extern "C" fn nishkavel_read_document(
     parents: &mut [u16],
     labels: &mut [u16],
 ) -> i64
-    ensures { λ r. ⌜ Coded (λ a. ReadsDocument (now (document .entry)) (now (parents .entry)) (now (labels .entry)) a (now (parents .exit)) (now (labels .exit)))
+    ensures { λ r. ⌜ Coded (λ a. ReadsInto (now (document .entry)) (now (parents .entry)) (now (labels .entry)) a (now (parents .exit)) (now (labels .exit)))
         r ⌝ }
 {
-    code::number_of(packets::read_document(document, parents, labels))
+    code::number_of(packet_lists::read_lists(document, parents, labels))
 }
 
 // The answers of a packet's pattern in a document that stands in two lists: the count, the answers ascending at the front of `list`, the working entries in
