@@ -1,6 +1,6 @@
 -- `mappings::next_image` meets its contract: none of the steps from q to s is right. Assumes nothing.
 use Prim.Native.Nat.{_-_, _≤_, _<_}
-use mathlib.Core.Path.{sym, _∙_}
+use mathlib.Core.Path.{sym, _∙_, subst}
 use native.Mathlib.Omega.{arith}
 use Rattle.tables.specs.Pattern.{Shape}
 use Rattle.mappings.specs.Fits.{StepLists}
@@ -15,7 +15,7 @@ abbrev μ-loop : tie.MeasureT-loop
 μ-loop parents axes n fit t axis q at s₀ s = n - s
 
 loop-holds : tie.Need-loop-holds Inv-loop μ-loop
-loop-holds c = (omega arith, omega arith, λ A l. sought-start A _ _ _ _)
+loop-holds c = (omega arith, omega arith, λ A l. subst (Sought A _ _ _ _) (omega arith) (sought-start A _ _ _ _))
 
 returns : tie.Need-returns Inv-loop μ-loop
 returns c A l w =

@@ -1,9 +1,15 @@
 -- `packets::write_pattern` meets its contract: the rules, the room, and then the packet. Assumes nothing.
-use mathlib.Core.Path.{refl, subst}
+use Prim.Native.Nat.{ℕ}
+use mathlib.Core.Path.{_≡_, refl, sym, ap, _∙_, subst}
 use mathlib.Core.Logic.{inl, inr, ⊎-elim}
+use mathlib.Core.List.{List, _++_}
 use native.Mathlib.Omega.{arith}
+use lib.ListN.{drop}
+use denote.Ref.{now}
 use Rattle.tables.specs.Checks.{ChecksPattern}
-use Rattle.tables.specs.Pattern.{ValidPattern}
+use Rattle.tables.specs.Pattern.{shapeOf, ValidPattern}
+use Rattle.tables.specs.declared.Pattern.{Pattern}
+use Rattle.packets.specs.PatternPacket.{patternPacket, lengthOf, PacketPut}
 use borrow.Author.Needs.{needs}
 use Rattle.packets.proofs.write_pattern.Statement.{statement}
 use Rattle.packets.proofs.write_pattern.Tie as tie
@@ -11,6 +17,11 @@ use Rattle.packets.proofs.write_pattern.Tie as tie
 -- past the first test the pattern obeys the rules
 valid : (x : tie.After-enum-told) → ValidPattern (x .before .before .before .before .args .p)
 valid x = subst (ChecksPattern (x .before .before .before .before .args .p)) (x .enum-told .given .1) (x .before .before .check-pattern .ensures) .0 .0
+
+-- the count is the packet's length, however it is reckoned
+put : (p : Pattern) (before after : List ℕ) (c : ℕ) → c ≡ lengthOf p → after ≡ patternPacket (shapeOf p) ++ drop (lengthOf p) before → PacketPut p before c
+    after
+put p before after c e f = (e, f ∙ ap (λ m. patternPacket (shapeOf p) ++ drop m before) (sym e))
 
 returns : tie.Need-returns
 returns c =
@@ -22,7 +33,9 @@ returns-2 : tie.Need-returns-2
 returns-2 c = (inr (valid (c .before .before), inl ((λ h. omega arith), refl)), refl)
 
 returns-3 : tie.Need-returns-3
-returns-3 c = let x = c .before .before in ((valid (x .before .before .before .before), (omega arith, tt)), (refl, x .put-pattern .ensures))
+returns-3 c =
+    let x = c .before .before in let a = x .before .before .before .before .before .before .before .before .args in
+    ((valid (x .before .before .before .before), (omega arith, tt)), put (a .p) (now (a .out)) _ _ (omega arith) (x .put-pattern .ensures))
 
 pub write-pattern-spec : {M : Type 1} → statement M
 write-pattern-spec = tie.close (tie.spec (λ c κs. search needs) (λ c. search needs) returns (λ c. search needs)
