@@ -136,6 +136,40 @@ fn beside(answer: Containment) -> ContainmentAnswer
     }
 }
 
+// The same as `contains`, where a and b obey the rules. For the crates above: asks for what they have checked.
+pub fn contains_right(
+    a: Pattern,
+    b: Pattern,
+    parents: &mut [u16],
+    labels: &mut [u16],
+) -> ContainmentAnswer
+    requires { ⌜ ValidPattern a × ValidPattern b ⌝ }
+    ensures { λ r. ⌜ DecidesContainment a b (now (parents .entry)) (now (labels .entry)) r (now (parents .exit)) (now (labels .exit)) ⌝ }
+{
+    let l = fresh(a, b);
+    if l == 0 {
+        return beside(Containment::Refused(Refusal::NoLabel));
+    }
+    let m = a.count + witness::descendants_before(a, a.count);
+    if parents.len() < m || labels.len() < m {
+        return beside(Containment::Refused(Refusal::Room));
+    }
+    let found = comparing::compare(a, b);
+    if found.there {
+        let mapping = found.mapping;
+        return ContainmentAnswer {
+            answer: Containment::Contained,
+            mapping: mapping,
+        };
+    }
+    let nodes = witness::write_witness(a, l, parents, labels);
+    let node = witness::own_node(a, a.output);
+    beside(Containment::Apart {
+        nodes: nodes,
+        answer: node,
+    })
+}
+
 // Is a contained in b? Contained, with the smallest mapping of b into a, and both lists as they were. Or apart, with a witness: a document, its parents and
 // labels at the front of the two lists, which keep all entries past its nodes, and a node of it that a answers and b does not. Refused, with both lists as
 // they were, by BadPattern if a breaks the rules, then if b does; by NoLabel if no label is free for the witness; by Room if a list has fewer entries than
@@ -148,30 +182,11 @@ pub fn contains(
 ) -> ContainmentAnswer
     ensures { λ r. ⌜ DecidesContainment a b (now (parents .entry)) (now (labels .entry)) r (now (parents .exit)) (now (labels .exit)) ⌝ }
 {
-    let v = comparing::decide(a, b);
-    let answer = v.answer;
-    if let comparing::Verdict::Refused(r) = answer {
+    if let Checked::Refused(r) = tables::check_pattern(a) {
         return beside(Containment::Refused(r));
     }
-    let l = fresh(a, b);
-    if l == 0 {
-        return beside(Containment::Refused(Refusal::NoLabel));
+    if let Checked::Refused(r) = tables::check_pattern(b) {
+        return beside(Containment::Refused(r));
     }
-    let m = a.count + witness::descendants_before(a, a.count);
-    if parents.len() < m || labels.len() < m {
-        return beside(Containment::Refused(Refusal::Room));
-    }
-    if let comparing::Verdict::Contained = answer {
-        let mapping = v.mapping;
-        return ContainmentAnswer {
-            answer: Containment::Contained,
-            mapping: mapping,
-        };
-    }
-    let nodes = witness::write_witness(a, l, parents, labels);
-    let node = witness::own_node(a, a.output);
-    beside(Containment::Apart {
-        nodes: nodes,
-        answer: node,
-    })
+    contains_right(a, b, parents, labels)
 }
