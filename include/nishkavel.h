@@ -79,9 +79,9 @@ static inline const char *nishkavel_refusal_text(int64_t result)
     case NISHKAVEL_REFUSED_OTHER_LABEL:
         return "the compensation does not begin with the label of the view's output step";
     case NISHKAVEL_REFUSED_TOO_LARGE:
-        return "a join would pass 64 steps, or a query or a view for rewriting passes 32";
+        return "more than 64 steps in a join, or more than 32 in what is to be rewritten";
     case NISHKAVEL_REFUSED_NO_LABEL:
-        return "the two patterns leave no label for a witness";
+        return "no label is free for a witness";
     default:
         return result < 0 ? "not a result of this library" : "no refusal";
     }
@@ -159,8 +159,8 @@ int64_t nishkavel_read_document(const uint8_t *document, size_t document_bytes, 
 /* The answers of a pattern in a document that stands in two lists, so that a document is decoded once for many patterns.
  *   Lists    parents_entries and labels_entries are the node count n, not the size of your arrays.
  *   Returns  the count c.
- *   Writes   the answers, ascending, to the first c entries of `list`, and to the first 2n entries of `work`: bit s of entry 2i says that step s and all steps
- *            below it can be placed with step s at node i, bit s of entry 2i + 1 that the whole pattern can. Later entries stay.
+ *   Writes   the answers, ascending, to the first c entries of `list`, and to the first 2n entries of `work`: bit s of entry 2i says that step s
+ *            fits at node i with all that hangs on it, bit s of entry 2i + 1 that it stands there in a placement of the whole pattern. Later entries stay.
  *   Room     n entries in `list`, NISHKAVEL_WORK_ENTRIES(n) in `work`.
  *   Refuses  2, 1, 2, 3 for the pattern packet; 4; 5. */
 int64_t nishkavel_list_answers(const uint16_t *parents, size_t parents_entries, const uint16_t *labels, size_t labels_entries, const uint8_t *pattern,

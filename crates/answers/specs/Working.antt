@@ -8,11 +8,11 @@ use Rattle.tables.specs.Document.{Document, nodeCount, nodesOf}
 use Rattle.tables.specs.Pattern.{Shape}
 use Rattle.placing.specs.Placement.{Reaches, ReachesFrom}
 
--- step s with all steps below it can be placed with s at node i, the axis of s itself not counting
+-- node i can hold step s, with places below it for every step that hangs on s, whatever axis leads to s
 abbrev pub FitsAt : Shape → Document → ℕ → ℕ → Type 0
 FitsAt A d i s = (s < A .tree .size) × ReachesFrom A (nodesOf d) s i
 
--- the whole pattern has a placement with s at i, step 0 at a node of `First`
+-- node i holds step s in some placement of all steps, which has step 0 at a node of `First`
 abbrev pub PlacedAt : Shape → Document → (ℕ → Type 0) → ℕ → ℕ → Type 0
 PlacedAt A d First i s = (s < A .tree .size) × Reaches A (nodesOf d) First s i
 

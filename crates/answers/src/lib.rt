@@ -75,8 +75,8 @@ pub fn answers(
     Counted::Count(find(p, parents, labels, list, work))
 }
 
-// The same with step 0 at any node of `starts`, which may be empty: the pattern's step 0 must have axis child, and `starts` must be strictly ascending node
-// numbers. Refused by 3, 4, 6 (the axis of step 0, or the start list), 5, in this order; then both lists stay as they were.
+// The same with step 0 at any node of `starts`, which may be empty: step 0 may not have axis descendant, and `starts` has to hold nodes, each once, in
+// order. Refused by 3, 4, 6 (the axis of step 0, or the start list), 5, in this order; then both lists stay as they were.
 pub fn started(
     p: Pattern,
     parents: &[u16],

@@ -1,4 +1,4 @@
-// Reads a document packet, a view packet and a query packet from standard input and prints what `asking::reply` says of them (docs/RULES.md, "The program
+// Reads three packets, the document, the view and the query, from standard input and prints what `asking::reply` says of them (docs/RULES.md, "The program
 // ask").
 use tables::Counted;
 

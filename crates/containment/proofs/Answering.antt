@@ -1,9 +1,9 @@
--- The containment call's checks, from the verdict, the fresh label and the room. Assumes nothing.
+-- The containment call's checks, from those of the pair, the fresh label and the room. Assumes nothing.
 use Prim.Native.Nat.{ℕ, zero, suc, _≤_}
 use mathlib.Core.Path.{_≡_, refl}
 use mathlib.Core.Logic.{inl, inr, ⊎-elim, _≢_}
 use native.Mathlib.Omega.{arith}
-use Rattle.tables.specs.Pattern.{Shape, shapeOf}
+use Rattle.tables.specs.Pattern.{Shape, shapeOf, ValidPattern}
 use Rattle.tables.specs.Refusal.{Passes, Refuses}
 use Rattle.tables.specs.declared.Pattern.{Pattern}
 use Rattle.tables.specs.declared.Refusal.{Refusal}
@@ -24,17 +24,17 @@ fresh-none A B zero e f w = ⊎-elim (w .1 .not-first) (w .1 .not-second) (f (w 
 fresh-none A B (suc l) e f w = absurd (omega arith)
 
 module _ (A B : Pattern) (a b : ℕ) where
-  -- what refuses the verdict refuses the call
-  pub verdict-refuses : (r : Refusal) → Refuses (pairChecks A B) r → Refuses (containmentChecks A B a b) r
-  verdict-refuses r h = ⊎-elim inl (λ w. inr (w .0, ⊎-elim inl (λ x. absurd (x .1)) (w .1))) h
+  -- what refuses the pair refuses the call
+  pub pair-refuses : (r : Refusal) → Refuses (pairChecks A B) r → Refuses (containmentChecks A B a b) r
+  pair-refuses r h = ⊎-elim inl (λ w. inr (w .0, ⊎-elim inl (λ x. absurd (x .1)) (w .1))) h
 
-  module _ (p : Passes (pairChecks A B)) where
+  module _ (p : ValidPattern A × ValidPattern B) where
     pub label-refuses : ((l : ℕ) × Fresh (shapeOf A) (shapeOf B) l → ⊥) → Refuses (containmentChecks A B a b) NoLabel
-    label-refuses n = inr (p .0, inr (p .1 .0, inl (n, refl)))
+    label-refuses n = inr (p .0, inr (p .1, inl (n, refl)))
 
     module _ (l : ℕ) (f : Fresh (shapeOf A) (shapeOf B) l) where
       pub room-refuses : ((witnessSize (shapeOf A) ≤ a) × (witnessSize (shapeOf A) ≤ b) → ⊥) → Refuses (containmentChecks A B a b) Room
-      room-refuses n = inr (p .0, inr (p .1 .0, inr ((l, f), inl (n, refl))))
+      room-refuses n = inr (p .0, inr (p .1, inr ((l, f), inl (n, refl))))
 
       pub all-pass : witnessSize (shapeOf A) ≤ a → witnessSize (shapeOf A) ≤ b → Passes (containmentChecks A B a b)
-      all-pass x y = (p .0, (p .1 .0, ((l, f), ((x, y), tt))))
+      all-pass x y = (p .0, (p .1, ((l, f), ((x, y), tt))))

@@ -7,7 +7,6 @@ use native.Mathlib.Omega.{arith}
 use lib.ListN.{getD}
 use Rattle.tables.specs.Bits.{bit}
 use Rattle.tables.specs.Checks.{ChecksPattern}
-use Rattle.tables.specs.Column.{stepArray}
 use Rattle.tables.specs.Pattern.{Shape, shapeOf, ValidShape, ValidPattern}
 use Rattle.tables.specs.Refusal.{Refuses}
 use Rattle.tables.specs.declared.Checked.the-variants as checked
@@ -19,9 +18,6 @@ use Rattle.tables.proofs.Trees.{from-here, from-root, parent-lt}
 use Rattle.containment.specs.Mapping.{BeginsIn, Maps, Contained}
 use Rattle.containment.specs.Containment.{Within}
 use Rattle.containment.specs.Equality.{pairChecks}
-use Rattle.containment.specs.inner.Verdict.{Decides}
-use Rattle.containment.specs.declared.comparing.Verdict.the-variants as verdict
-use Rattle.containment.specs.declared.comparing.VerdictAnswer.{VerdictAnswer}
 use Rattle.mappings.specs.Fits.{FitsIn, FitTable, Picks}
 use Rattle.containment.specs.inner.Results.{Chosen}
 use Rattle.containment.proofs.Contained.{contained-iff}
@@ -79,11 +75,6 @@ module _ (A B : Shape) (va : ValidShape A) (vb : ValidShape B) where
 module _ (A B : Pattern) where
   pub within-chosen : ValidPattern A → ValidPattern B → (m : List StepNo) → Chosen (shapeOf B) (shapeOf A) m → Within A B m
   within-chosen va vb m h = record { contained = chosen-contained (shapeOf A) (shapeOf B) va vb m h; by = h .by; least = h .least; array = h .array }
-
-  -- the answer "apart", with no mapping beside it
-  pub told-apart : (r : VerdictAnswer) → ValidPattern A → ValidPattern B → r .answer ≡ verdict.Apart → r .mapping ≡ stepArray (λ t. 0) 0
-      → (Contained (shapeOf A) (shapeOf B) → ⊥) → Decides A B r
-  told-apart r va vb e m n = rw e ((va, (vb, tt)), n, m)
 
   -- a refusal of the first pattern
   pub first-refused : (r : Refusal) → ChecksPattern A (checked.Refused r) → Refuses (pairChecks A B) r

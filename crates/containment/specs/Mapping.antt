@@ -17,7 +17,7 @@ pub record Maps (B A : Shape) (m : ℕ → ℕ) : Type 0 where
   pub first : BeginsIn B A (m 0)
   pub output : m (B .output) ≡ A .output
 
--- m is the mapping of B into A whose list of step numbers is smallest
+-- m maps B into A, and where any other mapping first differs from it, that one has the larger image
 pub record LeastMap (B A : Shape) (m : ℕ → ℕ) : Type 0 where
   pub maps : Maps B A m
   pub least : (n : ℕ → ℕ) → Maps B A n → NoLater m n (B .tree .size)

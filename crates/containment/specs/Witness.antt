@@ -26,7 +26,7 @@ pub record Stands (A : Shape) (l : ℕ) : Type 0 where
   pub here : step < A .tree .size
   pub is : A .label step ≡ l
 
--- l is the smallest label from 1 up that stands in neither pattern
+-- l is a label that no step of the two patterns has, and every smaller label stands at one
 pub record Fresh (A B : Shape) (l : ℕ) : Type 0 where
   pub label : IsLabel l
   pub not-first : Stands A l → ⊥

@@ -24,7 +24,7 @@ use tables::Refusal;
 use tables::STEPS;
 use tables::StepNo;
 
-// Contained; or apart, with the witness's node count and its answer node; or refused.
+// Contained; or apart: how many nodes the witness has, and which of them is the answer node; or refused.
 pub enum Containment {
     Contained,
     Apart { nodes: usize, answer: NodeNo },
@@ -58,7 +58,7 @@ fn mark_labels(a: Pattern, used: &mut [bool; 256])
     }
 }
 
-// The smallest label from 1 up that stands at no step of a or b; 0 where each of them stands at one. Labels that are marked need no search.
+// The smallest label that no step of a or b has; 0 where every label is at some step. Labels that are marked need no search.
 fn fresh(a: Pattern, b: Pattern) -> u16
     requires { ⌜ (a .count ≤ 64) × (b .count ≤ 64) ⌝ }
     ensures { λ r. ⌜ FreshOr0 (shapeOf a) (shapeOf b) r ⌝ }
@@ -136,6 +136,40 @@ fn beside(answer: Containment) -> ContainmentAnswer
     }
 }
 
+// The same as `contains`, where a and b obey the rules. For the crates above: asks for what they have checked.
+pub fn contains_right(
+    a: Pattern,
+    b: Pattern,
+    parents: &mut [u16],
+    labels: &mut [u16],
+) -> ContainmentAnswer
+    requires { ⌜ ValidPattern a × ValidPattern b ⌝ }
+    ensures { λ r. ⌜ DecidesContainment a b (now (parents .entry)) (now (labels .entry)) r (now (parents .exit)) (now (labels .exit)) ⌝ }
+{
+    let l = fresh(a, b);
+    if l == 0 {
+        return beside(Containment::Refused(Refusal::NoLabel));
+    }
+    let m = a.count + witness::descendants_before(a, a.count);
+    if parents.len() < m || labels.len() < m {
+        return beside(Containment::Refused(Refusal::Room));
+    }
+    let found = comparing::compare(a, b);
+    if found.there {
+        let mapping = found.mapping;
+        return ContainmentAnswer {
+            answer: Containment::Contained,
+            mapping: mapping,
+        };
+    }
+    let nodes = witness::write_witness(a, l, parents, labels);
+    let node = witness::own_node(a, a.output);
+    beside(Containment::Apart {
+        nodes: nodes,
+        answer: node,
+    })
+}
+
 // Is a contained in b? Contained, with the smallest mapping of b into a, and both lists as they were. Or apart, with a witness: a document, its parents and
 // labels at the front of the two lists, which keep all entries past its nodes, and a node of it that a answers and b does not. Refused, with both lists as
 // they were, by BadPattern if a breaks the rules, then if b does; by NoLabel if no label is free for the witness; by Room if a list has fewer entries than
@@ -148,30 +182,11 @@ pub fn contains(
 ) -> ContainmentAnswer
     ensures { λ r. ⌜ DecidesContainment a b (now (parents .entry)) (now (labels .entry)) r (now (parents .exit)) (now (labels .exit)) ⌝ }
 {
-    let v = comparing::decide(a, b);
-    let answer = v.answer;
-    if let comparing::Verdict::Refused(r) = answer {
+    if let Checked::Refused(r) = tables::check_pattern(a) {
         return beside(Containment::Refused(r));
     }
-    let l = fresh(a, b);
-    if l == 0 {
-        return beside(Containment::Refused(Refusal::NoLabel));
+    if let Checked::Refused(r) = tables::check_pattern(b) {
+        return beside(Containment::Refused(r));
     }
-    let m = a.count + witness::descendants_before(a, a.count);
-    if parents.len() < m || labels.len() < m {
-        return beside(Containment::Refused(Refusal::Room));
-    }
-    if let comparing::Verdict::Contained = answer {
-        let mapping = v.mapping;
-        return ContainmentAnswer {
-            answer: Containment::Contained,
-            mapping: mapping,
-        };
-    }
-    let nodes = witness::write_witness(a, l, parents, labels);
-    let node = witness::own_node(a, a.output);
-    beside(Containment::Apart {
-        nodes: nodes,
-        answer: node,
-    })
+    contains_right(a, b, parents, labels)
 }

@@ -19,7 +19,7 @@ use Rattle.plan.specs.Steps.{FitsBy}
 use Rattle.plan.proofs.Rising.{Risen, risen-start, risen-turn, risen-fits, along}
 use Rattle.marking.specs.Entries.{first, second, HandedUp, Fitted}
 
--- step s with all steps below it can be placed with s at node i
+-- node i can hold step s and, below it, what hangs on s
 abbrev pub Fits : Shape → Document → ℕ → ℕ → Type 0
 Fits A d i s = (s < A .tree .size) × ReachesFrom A (nodesOf d) s i
 

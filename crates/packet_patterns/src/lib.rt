@@ -106,7 +106,7 @@ pub fn contain_packets(a: &[u8], b: &[u8], room: &mut [u8]) -> Counted
     if let Checked::Refused(r) = read {
         return Counted::Refused(r);
     }
-    let found = containment::contains(two.first, two.second, &mut parents, &mut labels);
+    let found = containment::contains_right(two.first, two.second, &mut parents, &mut labels);
     let answer = found.answer;
     match answer {
         Containment::Contained => {

@@ -15,7 +15,7 @@ use Rattle.tables.specs.Document.{Document, nodeCount, nodesOf}
 use Rattle.tables.specs.Pattern.{Shape}
 use Rattle.placing.specs.Placement.{Reaches}
 
--- step 0 with axis child goes to node 0, with axis descendant to any node
+-- where step 0 may be: at node 0 alone if its axis is child, anywhere if it is descendant
 abbrev pub Begins : Shape → ℕ → Type 0
 Begins A i = A .axis 0 ≡ 0 → i ≡ 0
 

@@ -46,7 +46,7 @@ pub record Reaches (A : Shape) (X : Rows) (First : ℕ → Type 0) (s i : ℕ) :
   pub first : First (by 0)
   pub at : by s ≡ i
 
--- step s with all steps below it can be sent with s to row i
+-- step s can be sent to row i, and what hangs on s to rows below it
 pub record ReachesFrom (A : Shape) (X : Rows) (s i : ℕ) : Type 0 where
   pub by : ℕ → ℕ
   pub sends : SendsFrom A X s i by

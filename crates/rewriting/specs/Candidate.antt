@@ -13,7 +13,7 @@ pathTo T zero s = []
 pathTo T (suc k) zero = 0 ∷ []
 pathTo T (suc k) (suc s) = pathTo T k (T .parent (suc s)) ++ (suc s ∷ [])
 
--- the main path runs from step 0 to the output step
+-- the main path: the output step, its parent, and so on up to step 0, listed from the top
 unfoldable pub mainPath : Shape → List ℕ
 mainPath A = pathTo (A .tree) (suc (A .output)) (A .output)
 

@@ -167,7 +167,7 @@ fn serves(q: Pattern, v: Pattern, e: Pattern) -> bool
     ensures { λ r. ⌜ T r ↔ Equal (shapeOf (joinOf v e)) (shapeOf q) ⌝ }
 {
     let j = joining::join_table(v, e);
-    containment::same(j, q)
+    containment::same(q, j)
 }
 
 // An answer with the zero pattern beside it.

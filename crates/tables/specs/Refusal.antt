@@ -29,13 +29,13 @@ number BadPattern = 3
 number BadDocument = 4
 -- a lent list or buffer is too short
 number Room = 5
--- a compensation's step 0 has axis descendant, or a start list is not ascending node numbers of the document
+-- what is started or joined begins with axis descendant, or a start list does not hold nodes of the document in ascending order
 number Start = 6
--- the compensation's step 0 and the view's output step have different labels
+-- a compensation begins with another label than that of the view's output step
 number OtherLabel = 7
--- a join would pass 64 steps, or a query or a view for rewriting passes 32
+-- more than 64 steps in a join, or more than 32 in what is to be rewritten
 number TooLarge = 8
--- two patterns leave no label for a witness
+-- no label is free for a witness
 number NoLabel = 9
 
 -- a check of a call: what it asks, and the number of the refusal that it gives where that does not hold

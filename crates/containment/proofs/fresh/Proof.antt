@@ -64,11 +64,11 @@ labels-again-3 c =
     let l = c .before .before .before .before .before .before .before .before .labels in (
       omega arith,
       below-more (λ (k : ℕ). 1 ≤ k → Stands _ k ⊎ Stands _ k) (l .l + 1) (l .inv .1)
-          (λ z. inr (record { step = c .before .before .before .loop2 .t; here = omega arith; is = c .if5 .taken })),
+          (λ z. inr (record { step = c .before .before .before .loop2 .t; here = omega arith; is = omega (arith, c .if5 .taken) })),
     )
 
 loop2-again : tie.Need-loop2-again Inv-loop μ-loop Inv-loop2 μ-loop2 Inv-labels μ-labels
-loop2-again c = (omega arith, below-more _ _ (c .before .before .before .loop2 .inv .1) (c .if5 .left))
+loop2-again c = (omega arith, below-more _ _ (c .before .before .before .loop2 .inv .1) (λ e. omega (arith, e, c .if5 .left)))
 
 returns : tie.Need-returns Inv-loop μ-loop Inv-loop2 μ-loop2 Inv-labels μ-labels
 returns c = λ k g h. c .before .labels .inv .1 k (omega arith) g

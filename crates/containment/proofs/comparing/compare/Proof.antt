@@ -3,7 +3,8 @@ use Rattle.tables.specs.Pattern.{shapeOf}
 use Rattle.containment.specs.Mapping.{BeginsIn}
 use Rattle.mappings.specs.Fits.{FitsIn, Picks}
 use Rattle.mappings.proofs.Images.{pick-below}
-use Rattle.containment.proofs.Verdicts.{first-picked, not-contained, within-chosen, told-apart}
+use Rattle.containment.proofs.Verdicts.{first-picked, not-contained, within-chosen}
+use native.Mathlib.Omega.{arith}
 use borrow.Author.Needs.{needs}
 use Rattle.containment.proofs.comparing.compare.Statement.{statement}
 use Rattle.containment.proofs.comparing.compare.Tie as tie
@@ -19,21 +20,20 @@ picks c =
 
 returns : tie.Need-returns
 returns c =
-    let g = c .before .before .before in let s = g .before .before .before .before .before .before in
-    let u = c .beside .ensures in
-    told-apart (s .args .t1) (s .args .t2) (c .beside .result) (s .pre .0) (s .pre .1) (u .0) (u .1)
-    (not-contained _ _ (s .pre .0) (s .pre .1) _ (c .before .if1 .taken) (picks g))
+    let g = c .before .before in let s = g .before .before .before .before .before .before in (
+      λ t. absurd t,
+      λ h. absurd (not-contained _ _ (s .pre .0) (s .pre .1) (g .first-image .result .0) (omega (arith, c .if1 .taken)) (picks g) h),
+    )
 
 choose-requires : tie.Need-choose-requires
 choose-requires c κs =
     let g = c .before .before .before in let s = g .before .before .before .before .before .before in
-    (s .pre, (g .before .before .before .before .fit-steps .ensures, (picks g, pick-below (picks g) (c .before .if1 .left))))
+    (s .pre, (g .before .before .before .before .fit-steps .ensures, (picks g, pick-below (picks g) (λ e. omega (arith, e, c .before .if1 .left)))))
 
 returns-2 : tie.Need-returns-2
 returns-2 c =
     let s = c .before .before .before .before .before .before .before .before .before .before in
-    ((s .pre .0, (s .pre .1, tt)), within-chosen _ _ (s .pre .0) (s .pre .1) _ (c .choose .ensures))
+    (λ t. within-chosen _ _ (s .pre .0) (s .pre .1) _ (c .choose .ensures), λ h. tt)
 
 pub compare-spec : {M : Type 1} → statement M
-compare-spec = tie.close (tie.spec (λ c κs. search needs) (λ c. search needs) (λ c. search needs) (λ c κs. search needs) (λ c κs. search needs)
-    returns choose-requires returns-2)
+compare-spec = tie.close (tie.spec (λ c κs. search needs) (λ c. search needs) (λ c. search needs) (λ c κs. search needs) returns choose-requires returns-2)

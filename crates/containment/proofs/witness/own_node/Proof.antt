@@ -23,7 +23,7 @@ few : (c : tie.After-descendants-before) → ownNode (shapeOf (c .before .before
 few c = let s = c .before .before in own-few (shapeOf (s .args .a)) (s .pre .0) (s .args .s .0) (s .pre .1)
 
 returns : tie.Need-returns
-returns c = ap nodeNo (own c)
+returns c = ap nodeNo (omega (arith, own c))
 
 pub own-node-spec : {M : Type 1} → statement M
 own-node-spec = tie.close (tie.spec (λ c. search needs) (λ c. search needs) (λ c κs. search needs) (λ c. record { fits = omega (arith, few c, own c) })
