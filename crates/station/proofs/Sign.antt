@@ -23,12 +23,7 @@ use Rattle.packet_answers.specs.Documents.{AnswersPut, packetChecks, AnswersPac
 use Rattle.packet_lists.specs.Lists.{ReadsInto, ListAnswers, ListStarted}
 use Rattle.packet_patterns.specs.Contained.{Shown, containsChecks, ContainsPackets}
 use Rattle.packet_patterns.specs.Patterns.{joinsChecks, JoinsPackets, rewritesChecks, Rewritten, RewritesPackets, CopiesPacket}
-use Rattle.station.specs.Code.{codeOf, Coded}
-
--- what the number r tells of a call: its checks, what an answer n says, and that everything lent is as it was
-pub record Told (cs : List Check) (X : ℕ → Type 0) (Kept : Type 0) (r : ℤ) : Type 0 where
-  pub answered : (n : ℕ) → r ≡ pos n → Passes cs × X n
-  pub refused : (k : ℕ) → r ≡ negℤ (pos (suc k)) → (q : Refusal) × (number q ≡ suc k) × Refuses cs q × Kept
+use Rattle.station.specs.Code.{codeOf, Coded, Told}
 
 -- no refusal has the number 0
 refusal-code : (q : Refusal) → (k : ℕ) × (number q ≡ suc k) × (codeOf (counted.Refused q) ≡ negsuc k)
