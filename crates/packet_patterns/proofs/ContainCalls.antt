@@ -69,12 +69,6 @@ module _ {xs ys : List ℕ} {t : TwoRead} (s : ReadsTwo xs ys t) where
     right : TwoRight xs ys
     right = two-of xs ys passes
 
-    -- what the call asks for
-    pub contains-asks : ValidPattern (t .first) × ValidPattern (t .second)
-    contains-asks =
-        let p = two-told checked.Right s e .1 in
-        (subst ValidPattern (sym (p .0)) (right .first .right), subst ValidPattern (sym (p .1)) (right .second .right))
-
     module _ (parents labels : List ℕ) (f : ContainmentAnswer)
         (h : DecidesContainment (t .first) (t .second) (replicate 128 0) (replicate 128 0) f parents labels) where
       -- the call in terms of the packets

@@ -46,7 +46,7 @@ pub fn rewrite_packets(query: &[u8], view: &[u8], room: &mut [u8]) -> Counted
     if let Checked::Refused(r) = read {
         return Counted::Refused(r);
     }
-    let w = rewriting::rewrite(two.first, two.second);
+    let w = rewriting::rewrite_right(two.first, two.second);
     let answer = w.answer;
     match answer {
         Rewriting::Handed => packets::write_pattern(w.pattern, room),

@@ -1,7 +1,7 @@
 -- What the checks of a packet say, by name: a header, a pattern packet, a document packet, two pattern packets. Each list of checks passes exactly where its
 -- record holds. Assumes nothing.
 use Prim.Native.Nat.{ℕ, _≤_}
-use mathlib.Core.Path.{_≡_, subst}
+use mathlib.Core.Path.{_≡_, sym, subst}
 use mathlib.Core.List.{List, _++_}
 use native.Mathlib.Omega.{arith}
 use lib.ListN.{length, getD}
@@ -82,6 +82,12 @@ pub two-told : {bs cs : List ℕ} {t : TwoRead} (b : Checked) → ReadsTwo bs cs
     → Decided (patternChecks bs ++ patternChecks cs) b ((t .first ≡ packetPattern bs) × (t .second ≡ packetPattern cs)) (Unit {0})
 two-told {bs} {cs} {t} b h e =
     subst (λ a. Decided (patternChecks bs ++ patternChecks cs) a ((t .first ≡ packetPattern bs) × (t .second ≡ packetPattern cs)) (Unit {0})) e (h .says)
+
+-- two patterns that were read obey the rules
+pub two-valid : {bs cs : List ℕ} {t : TwoRead} → ReadsTwo bs cs t → t .answer ≡ Right → ValidPattern (t .first) × ValidPattern (t .second)
+two-valid {bs} {cs} h e =
+    let w = two-told Right h e in let v = two-of bs cs (w .0) in
+    (subst ValidPattern (sym (w .1 .0)) (v .first .right), subst ValidPattern (sym (w .1 .1)) (v .second .right))
 
 -- reading two packets, each by itself: what the first refuses
 pub first-refused : (bs cs : List ℕ) (x : PatternRead) {q : Pattern} → ReadsPattern bs x → (r : Refusal) → x .answer ≡ Refused r

@@ -11,3 +11,4 @@ pub mod Paths
 pub mod Rewritten
 pub mod Unique
 pub mod Deciding
+pub mod Said

@@ -180,18 +180,11 @@ fn beside(answer: Rewriting) -> RewritingAnswer
     }
 }
 
-// The compensation that serves a query by a view: the candidate, where there is one and its join with the view is equal to the query. Otherwise none
-// serves, and the pattern is zero. Refused by BadPattern for the query, BadPattern for the view or TooLarge, the first that applies, with the zero
-// pattern too.
-pub fn rewrite(q: Pattern, v: Pattern) -> RewritingAnswer
+// Rewriting where the query and the view obey the rules. For the crates above: asks for what they have checked.
+pub fn rewrite_right(q: Pattern, v: Pattern) -> RewritingAnswer
+    requires { ⌜ ValidPattern q × ValidPattern v ⌝ }
     ensures { λ r. ⌜ Rewrites q v r ⌝ }
 {
-    if let Checked::Refused(r) = tables::check_pattern(q) {
-        return beside(Rewriting::Refused(r));
-    }
-    if let Checked::Refused(r) = tables::check_pattern(v) {
-        return beside(Rewriting::Refused(r));
-    }
     if MOST < q.count || MOST < v.count {
         return beside(Rewriting::Refused(Refusal::TooLarge));
     }
@@ -207,4 +200,19 @@ pub fn rewrite(q: Pattern, v: Pattern) -> RewritingAnswer
         answer: Rewriting::Handed,
         pattern: e,
     }
+}
+
+// The compensation that serves a query by a view: the candidate, where there is one and its join with the view is equal to the query. Otherwise none
+// serves, and the pattern is zero. Refused by BadPattern for the query, BadPattern for the view or TooLarge, the first that applies, with the zero
+// pattern too.
+pub fn rewrite(q: Pattern, v: Pattern) -> RewritingAnswer
+    ensures { λ r. ⌜ Rewrites q v r ⌝ }
+{
+    if let Checked::Refused(r) = tables::check_pattern(q) {
+        return beside(Rewriting::Refused(r));
+    }
+    if let Checked::Refused(r) = tables::check_pattern(v) {
+        return beside(Rewriting::Refused(r));
+    }
+    rewrite_right(q, v)
 }

@@ -2,7 +2,8 @@
 use Prim.Native.Nat.{_≤_}
 use mathlib.Core.Path.{refl}
 use lib.ListN.{length, length-take}
-use Rattle.packet_patterns.proofs.ContainCalls.{contains-unread, contains-asks, contains-refused, contains-within, apart-few, contains-apart}
+use Rattle.packets.proofs.Views.{two-valid}
+use Rattle.packet_patterns.proofs.ContainCalls.{contains-unread, contains-refused, contains-within, apart-few, contains-apart}
 use native.Mathlib.Omega.{arith}
 use borrow.Author.Needs.{needs}
 use Rattle.packet_patterns.proofs.contain_packets.Statement.{statement}
@@ -51,7 +52,7 @@ pub contain-packets-spec : {M : Type 1} → statement M
 contain-packets-spec = tie.close (tie.spec (λ c κs. search needs) (λ c. search needs)
     (λ c. contains-unread (c .before .before .before .read-two .ensures) (c .before .read .given .0 .0) (c .before .read .given .1) refl)
     (λ c. search needs) (λ c. search needs) (λ c. search needs)
-    (λ c κs. contains-asks (c .before .before .before .before .read-two .ensures) (c .before .before .enum-told .given .1)) (λ c. search needs)
+    (λ c κs. two-valid (c .before .before .before .before .read-two .ensures) (c .before .before .enum-told .given .1)) (λ c. search needs)
     (λ c κs. search needs) (λ c. search needs)
     (λ c. few (c .before) .0) (λ c. simp length-take (omega (arith, few (c .before .before) .0))) (λ c. few (c .before .before) .1)
     (λ c. simp length-take (omega (arith, few (c .before .before .before) .1))) put-witness-requires (λ c. search needs) (λ c. search needs) returns-2
