@@ -9,7 +9,8 @@ use Rattle.packet_patterns.proofs.rewrite_packets.Tie as tie
 returns-2 : tie.Need-returns-2
 returns-2 c =
     let j = c .before .before .before .before .before .before in let w = c .before .before .write-pattern in
-    rewrite-handed (j .before .before .before .read-two .ensures) (j .before .enum-told .given .1) (j .rewrite-right .result) (j .rewrite-right .ensures) (w .result)
+    rewrite-handed (j .before .before .before .read-two .ensures) (j .before .enum-told .given .1) (j .rewrite-right .result) (j .rewrite-right .ensures)
+    (w .result)
     (c .before .before .before .before .enum-told2 .given .1) (w .ensures)
 
 returns-3 : tie.Need-returns-3
@@ -28,5 +29,6 @@ returns-4 c =
 pub rewrite-packets-spec : {M : Type 1} → statement M
 rewrite-packets-spec = tie.close (tie.spec (λ c κs. search needs) (λ c. search needs)
     (λ c. rewrite-unread (c .before .before .before .read-two .ensures) (c .before .read .given .0 .0) (c .before .read .given .1) refl)
-    (λ c. search needs) (λ c κs. two-valid (c .before .before .read-two .ensures) (c .enum-told .given .1)) (λ c. search needs) (λ c κs. search needs) (λ c. search needs) (λ c. search needs) (λ c. search needs)
+    (λ c. search needs) (λ c κs. two-valid (c .before .before .read-two .ensures) (c .enum-told .given .1)) (λ c. search needs) (λ c κs. search needs)
+    (λ c. search needs) (λ c. search needs) (λ c. search needs)
     returns-2 returns-3 returns-4)
