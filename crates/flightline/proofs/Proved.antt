@@ -1,4 +1,4 @@
--- Cases 1 to 11 of flight line seven hold, in the terms of the definitions: the whole table is proved by one computation. Assumes nothing.
+-- Cases 1 to 11 of flight line seven hold, in the terms of the definitions: the table is proved by computation. Assumes nothing.
 use lib.Dec.{T}
 use Rattle.tables.specs.Column.{blocks, stepArray}
 use Rattle.tables.specs.Document.{ValidDocument}
@@ -22,22 +22,38 @@ use Rattle.rewriting.proofs.Cuts.{howMany, cutShape}
 use Rattle.rewriting.proofs.Deciding.{candidateOf, hasCandidate, joinEqual, rewritable}
 use Rattle.flightline.specs.Fact.{pattern, AllHold}
 use Rattle.flightline.specs.Table.{line, view, posed, controlled, topStrip, nestedStrips, framePosed, linePoses, lineStrips, stripPoses, twoFrames}
-use Rattle.flightline.specs.Table.{oneFrame, viewWitness, cases}
+use Rattle.flightline.specs.Table.{oneFrame, viewWitness, answerCases, containmentCases, rewritingCases}
 use Rattle.flightline.proofs.Checking.{test, testAll, test-all}
 
 line-valid : ValidDocument line
 unfolding line isDocument nodeRight isLabel hangsRight isFrom isBelow climbs isChild every
 line-valid = tells-document line .says tt
 
--- the table passes
-cases-pass : T (testAll line cases)
-unfolding cases line view posed controlled topStrip nestedStrips framePosed linePoses lineStrips stripPoses twoFrames oneFrame viewWitness pattern patternOf
-    tableOf blocks stepArray test testAll isPattern stepRight isLabel hangsRight isFrom isBelow climbs isChild every some sameList samePattern sameDocument
-    stepBytes patternPacket packetShape firstFrom pick chosen best passing can canSend wholeTo canWhole labelFits takes begins isIn isStartList answersOf
-    entriesOf workingOf mask descendants ownNode hook parentsFor labelsFor witnessOf mapsInto leastMapping standsIn isFree freshLabel renumber byPart joinShape
-    joinOf pathTo mainPath cutStep howMany cutShape candidateOf hasCandidate joinEqual rewritable
-cases-pass = tt
+-- the three parts of the table pass
+answers-pass : T (testAll line answerCases)
+unfolding answerCases line view posed controlled topStrip nestedStrips pattern patternOf tableOf blocks stepArray test testAll isPattern stepRight isLabel
+    hangsRight isFrom isBelow climbs isChild every some sameList samePattern stepBytes patternPacket packetShape firstFrom pick chosen best passing can canSend
+    wholeTo canWhole labelFits takes begins answersOf entriesOf workingOf mask
+answers-pass = tt
+
+containment-passes : T (testAll line containmentCases)
+unfolding containmentCases line view controlled twoFrames oneFrame viewWitness pattern patternOf tableOf blocks stepArray test testAll isPattern stepRight
+    isLabel hangsRight isFrom isBelow climbs isChild every some sameList sameDocument firstFrom pick chosen best can canSend wholeTo canWhole labelFits takes
+    descendants ownNode hook parentsFor labelsFor witnessOf mapsInto leastMapping standsIn isFree freshLabel
+containment-passes = tt
+
+rewriting-passes : T (testAll line rewritingCases)
+unfolding rewritingCases line view posed controlled topStrip nestedStrips framePosed linePoses lineStrips stripPoses pattern patternOf tableOf blocks stepArray
+    test testAll isPattern stepRight isLabel hangsRight isFrom isBelow climbs isChild every some sameList samePattern firstFrom pick chosen best passing can
+    canSend wholeTo canWhole labelFits takes isIn isStartList answersOf entriesOf mask mapsInto renumber byPart joinShape joinOf pathTo mainPath cutStep howMany
+    cutShape candidateOf hasCandidate joinEqual rewritable
+rewriting-passes = tt
 
 -- the flight line obeys the rules, and the table holds
-pub cases-hold : ValidDocument line × AllHold line cases
-cases-hold = (line-valid, test-all line line-valid cases cases-pass)
+pub cases-hold : ValidDocument line × AllHold line answerCases × AllHold line containmentCases × AllHold line rewritingCases
+cases-hold = (
+  line-valid,
+  test-all line line-valid answerCases answers-pass,
+  test-all line line-valid containmentCases containment-passes,
+  test-all line line-valid rewritingCases rewriting-passes,
+)

@@ -57,9 +57,9 @@ oneFrame = pattern (255 ∷ 0 ∷ []) (0 ∷ 0 ∷ []) (2 ∷ 3 ∷ []) 0
 unfoldable pub viewWitness : Document
 viewWitness = documentOf (65535 ∷ 0 ∷ 1 ∷ 2 ∷ []) (1 ∷ 2 ∷ 1 ∷ 3 ∷ [])
 
--- cases 1 to 11, and one more
-unfoldable pub cases : List Fact
-cases =
+-- cases 1 to 5: answers
+unfoldable pub answerCases : List Fact
+answerCases =
     -- 1
     answers view (3 ∷ 6 ∷ []) ∷ packet view (1 ∷ 0 ∷ 9 ∷ 1 ∷ 255 ∷ 1 ∷ 0 ∷ 2 ∷ 0 ∷ 1 ∷ 0 ∷ 3 ∷ [])
     -- 2
@@ -69,18 +69,26 @@ cases =
     -- 4
     ∷ answers controlled (3 ∷ [])
     -- 5
-    ∷ answers topStrip [] ∷ answers nestedStrips []
+    ∷ answers topStrip [] ∷ answers nestedStrips [] ∷ []
+
+-- cases 6, 7 and 11: containment
+unfoldable pub containmentCases : List Fact
+containmentCases =
     -- 6
-    ∷ contained controlled view (0 ∷ 2 ∷ [])
+    contained controlled view (0 ∷ 2 ∷ [])
     -- 7
     ∷ apart view controlled 1 viewWitness 3
+    -- 11
+    ∷ equal twoFrames oneFrame ∷ []
+
+-- cases 8 to 10, and one more: rewriting
+unfoldable pub rewritingCases : List Fact
+rewritingCases =
     -- 8
-    ∷ handed posed view framePosed ∷ started framePosed (3 ∷ 6 ∷ []) (3 ∷ [])
+    handed posed view framePosed ∷ started framePosed (3 ∷ 6 ∷ []) (3 ∷ [])
     -- 9
     ∷ nothing controlled view
     -- 10
     ∷ handed linePoses lineStrips stripPoses
-    -- 11
-    ∷ equal twoFrames oneFrame
     -- the cut of //strip//strip by itself is its second step
     ∷ handed nestedStrips nestedStrips topStrip ∷ []

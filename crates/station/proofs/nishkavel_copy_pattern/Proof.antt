@@ -4,6 +4,9 @@ use borrow.Author.Needs.{needs}
 use Rattle.station.proofs.nishkavel_copy_pattern.Statement.{statement}
 use Rattle.station.proofs.nishkavel_copy_pattern.Tie as tie
 
+returns : tie.Need-returns
+returns c = search needs
+
 pub nishkavel-copy-pattern-spec : {M : Type 1} → statement M
 nishkavel-copy-pattern-spec = tie.close (tie.spec (λ c κs. search needs) (λ c κs. copies-small _ _ _ _ (c .before .before .copy-packet .ensures))
-    (λ c. search needs) (λ c. search needs))
+    (λ c. search needs) returns)
