@@ -158,7 +158,7 @@ part ask bash tests/ask.sh "${runner[@]}" "$ask"
 part ask_cases "$out/ask_cases" "${runner[@]}" "$ask"
 part samples samples
 part style style
-if command -v python3 > /dev/null; then part names python3 tools/check-names; fi
+part names python3 tools/check-names
 # A broken rule tells something only where the right ones agree with the library.
 [ "$compared" -ne 0 ] || part broken broken
 if [ "$failed" -eq 0 ]; then echo 'run: all parts passed'; else echo 'run: some parts FAILED'; fi
