@@ -28,6 +28,13 @@ use Rattle.placing.proofs.Listing.{answers-few}
 use Rattle.packets.proofs.Putting.{puts-rest}
 use Rattle.packet_answers.proofs.ReadingCalls.{both-document, both-nodes, both-few, pattern-valid, both-passes, both-bad}
 
+-- the lists of the calls' own, as they are at first
+abbrev pub list₀ : List ℕ
+list₀ = replicate 2048 0
+
+abbrev pub work₀ : List ℕ
+work₀ = replicate 4096 0
+
 -- what is known where both packets were read
 module _ {ds ps parents₀ labels₀ parents labels : List ℕ} {n : ℕ} {p : Pattern} (t : BothRead ds ps parents₀ labels₀ n p parents labels) where
   -- the answers as bytes
@@ -56,19 +63,11 @@ module _ {ds ps parents₀ labels₀ parents labels : List ℕ} {n : ℕ} {p : P
         answers-few First (shapeOf (packetPattern ps)) (packetDocument ds) (f .answers) (pattern-valid t .output) (f .lists),
       )
 
+  pub has-room : HasRoom (packetDocument ds) (length list₀) (length work₀)
+  has-room =
+      (omega (arith, both-few t, both-nodes t, length-replicate {A = ℕ} 2048 0), omega (arith, both-few t, both-nodes t, length-replicate {A = ℕ} 4096 0))
+
   module _ (list work : List ℕ) where
-    abbrev list₀ : List ℕ
-    list₀ = replicate 2048 0
-
-    abbrev work₀ : List ℕ
-    work₀ = replicate 4096 0
-
-    has-room : HasRoom (packetDocument ds) (length list₀) (length work₀)
-    has-room = (
-      omega (arith, both-few t, both-nodes t, length-replicate {A = ℕ} 2048 0),
-      omega (arith, both-few t, both-nodes t, length-replicate {A = ℕ} 4096 0),
-    )
-
     -- the call in terms of the packets
     here : (a : Counted) → FindsAnswers p (documentOf (take n parents) (take n labels)) list₀ work₀ a list work
         → FindsAnswers (packetPattern ps) (packetDocument ds) list₀ work₀ a list work

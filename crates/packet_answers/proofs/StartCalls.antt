@@ -4,7 +4,7 @@ use mathlib.Core.Path.{_≡_, refl, ap, _∙_, subst}
 use mathlib.Core.Logic.{_⊎_, inl, ⊎-elim}
 use mathlib.Core.List.{List, _++_}
 use native.Mathlib.Omega.{arith}
-use lib.ListN.{length, take, drop, replicate, length-replicate}
+use lib.ListN.{length, take, drop, replicate}
 use lib.Seq.{take-at}
 use Rattle.tables.specs.Column.{blocks, column}
 use Rattle.tables.specs.Document.{nodeCount, documentOf}
@@ -21,14 +21,14 @@ use Rattle.halves.specs.Bytes.{half, halfBytes, unpacked}
 use Rattle.packets.specs.PatternPacket.{packetPattern, patternChecks}
 use Rattle.packets.specs.DocumentPacket.{packetDocument, documentRules}
 use Rattle.placing.specs.Answer.{In, StartList}
-use Rattle.answers.specs.Answers.{HasRoom, FindsStarted}
+use Rattle.answers.specs.Answers.{FindsStarted}
 use Rattle.packet_answers.specs.Documents.{AnswersPut, nodesRoom, startCheck, StartsPackets}
 use Rattle.packet_answers.specs.inner.Reading.{AfterRules, BothRead, ReadsBoth}
 use Rattle.packets.specs.inner.Putting.{Puts}
 use Rattle.placing.proofs.Listing.{ascending-few}
 use Rattle.packets.proofs.Putting.{puts-rest}
-use Rattle.packet_answers.proofs.ReadingCalls.{after-rules, both-document, both-nodes, both-few, pattern-valid, both-passes, both-bad}
-use Rattle.packet_answers.proofs.DocumentCalls.{answered, found-small}
+use Rattle.packet_answers.proofs.ReadingCalls.{after-rules, both-document, both-nodes, pattern-valid, both-passes, both-bad}
+use Rattle.packet_answers.proofs.DocumentCalls.{list₀, work₀, has-room, answered, found-small}
 
 -- a packet that is refused
 pub starts-unread : {ds ps parents₀ labels₀ parents labels : List ℕ} {a : Counted} {p : Pattern} → ReadsBoth ds ps parents₀ labels₀ a p parents labels
@@ -65,12 +65,6 @@ module _ {ds ps parents₀ labels₀ parents labels : List ℕ} {n : ℕ} {p : P
 
   module _ (from list work : List ℕ) (g : from ≡ column (λ i. half ss (0 + 2 * i)) (length ss / 2) ++ drop (length ss / 2) (replicate 2048 0))
       (even : length ss % 2 ≡ 0) where
-    abbrev list₀ : List ℕ
-    list₀ = replicate 2048 0
-
-    abbrev work₀ : List ℕ
-    work₀ = replicate 4096 0
-
     -- the numbers read are the start nodes
     starts-are : take (length ss / 2) from ≡ unpacked ss
     unfolding unpacked
@@ -78,10 +72,6 @@ module _ {ds ps parents₀ labels₀ parents labels : List ℕ} {n : ℕ} {p : P
         ap (take (length ss / 2)) g
         ∙ take-at (column (λ i. half ss (0 + 2 * i)) (length ss / 2)) _ (length ss / 2) (column-length _ (length ss / 2))
         ∙ column-ext (λ i. half ss (0 + 2 * i)) (λ i. half ss (2 * i)) (length ss / 2) (λ i l. ap (half ss) {x = 0 + 2 * i} {y = 2 * i} (omega arith))
-
-    has-room : HasRoom (packetDocument ds) (length list₀) (length work₀)
-    has-room =
-        (omega (arith, both-few t, both-nodes t, length-replicate {A = ℕ} 2048 0), omega (arith, both-few t, both-nodes t, length-replicate {A = ℕ} 4096 0))
 
     module _ (a : Counted) (h : FindsStarted p (documentOf (take n parents) (take n labels)) (take (length ss / 2) from) list₀ work₀ a list
         work) where
@@ -101,7 +91,7 @@ module _ {ds ps parents₀ labels₀ parents labels : List ℕ} {n : ℕ} {p : P
             says = (
               ⊎-elim (λ w. absurd (w .0 (pattern-valid t))) (λ w. ⊎-elim (λ w. both-bad t (patternChecks ps ++ rest) r (w .0) (w .1))
                   (λ v. refuses-rest front rest r (both-passes t (v .0))
-                  (⊎-elim (λ w. inl (λ z. w .0 (z .0, z .2), w .1)) (λ w. absurd (⊎-elim (λ w. w .0 has-room) (λ w. w .1) (w .1))) (v .1))) (w .1))
+                  (⊎-elim (λ w. inl (λ z. w .0 (z .0, z .2), w .1)) (λ w. absurd (⊎-elim (λ w. w .0 (has-room t)) (λ w. w .1) (w .1))) (v .1))) (w .1))
                   (x .0),
               k,
             );
