@@ -27,14 +27,6 @@ wrote-byte b at x l = record {
   is = set-split b at x l ∙ sym (append-snoc (take at b) x (drop (suc at) b)) ∙ rw add-one;
 }
 
--- the buffer keeps its length
-pub wrote-length : (b : List ℕ) (at : ℕ) (t : List ℕ) (r : ℕ) (a : List ℕ) → at + length t ≤ length b → Wrote b at t r a → length a ≡ length b
-wrote-length b at t r a l w =
-    let e = w .end in
-    ap length (w .is)
-    ∙ length-append (take at b ++ t) (drop r b)
-    ∙ omega (arith, length-append (take at b) t, length-take-le at b (omega arith), length-drop r b)
-
 -- one text after another
 pub wrote-then : {b : List ℕ} {at : ℕ} {t : List ℕ} {r : ℕ} {m u : List ℕ} {s : ℕ} {a : List ℕ} → at ≤ length b → Wrote b at t r m → Wrote m r u s a → Wrote b
     at (t ++ u) s a

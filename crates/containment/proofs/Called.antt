@@ -10,7 +10,6 @@ use Rattle.tables.specs.Pattern.{shapeOf, ValidPattern}
 use Rattle.tables.specs.declared.NodeNo.{NodeNo}
 use Rattle.tables.specs.declared.Pattern.{Pattern}
 use Rattle.placing.specs.Answer.{Answer}
-use Rattle.containment.specs.Mapping.{Contained}
 use Rattle.containment.specs.Witness.{witnessOf, answerNode}
 use Rattle.containment.specs.Containment.{AnswersContainment, DecidesContainment}
 use Rattle.containment.specs.declared.Containment.{Containment}
@@ -30,11 +29,6 @@ pub record Shows (A B : Pattern) (d : Document) (i : ℕ) : Type 0 where
   pub misses : Answer (shapeOf B) d i → ⊥
 
 module _ (A B : Pattern) (parents₀ labels₀ : List ℕ) where
-  -- where the call says contained, A is contained in B
-  pub call-contained : (r : ContainmentAnswer) (parents labels : List ℕ) → DecidesContainment A B parents₀ labels₀ r parents labels
-      → r .answer ≡ containment.Contained → Contained (shapeOf A) (shapeOf B)
-  call-contained r parents labels h e = subst (λ (a : Containment). AnswersContainment A B parents₀ labels₀ a (r .mapping) parents labels) e h .1 .contained
-
   -- where it says apart, the lists begin with a document that shows it
   pub call-apart : (r : ContainmentAnswer) (parents labels : List ℕ) (m : ℕ) (i : NodeNo) → DecidesContainment A B parents₀ labels₀ r parents labels
       → r .answer ≡ containment.Apart m i → Shows A B (frontOf m parents labels) (i .0)

@@ -30,8 +30,5 @@ contained-refl A d v i a = a
 pub contained-trans : {A B C : Shape} → Contained A B → Contained B C → Contained A C
 contained-trans h k d v i a = k d v i (h d v i a)
 
-pub equal-refl : (A : Shape) → Equal A A
-equal-refl A = record { to = contained-refl A; back = contained-refl A }
-
 pub equal-sym : {A B : Shape} → Equal A B → Equal B A
 equal-sym e = record { to = e .back; back = e .to }

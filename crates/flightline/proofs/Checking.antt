@@ -18,7 +18,6 @@ use Rattle.packets.proofs.PatternTrip.{pattern-packet-passes}
 use Rattle.placing.specs.Answer.{Begins, Answer, Started, In, Lists}
 use Rattle.answers.specs.Working.{Working}
 use Rattle.answers.proofs.Tested.{begins, tells-begins, isIn, tells-in, isStartList, tells-start-list, answersOf, answers-of, workingOf, working-of}
-use Rattle.containment.specs.Mapping.{Contained}
 use Rattle.containment.specs.Witness.{Fresh, witnessOf, answerNode}
 use Rattle.containment.proofs.Contained.{witness-valid, witness-answers, witness-apart}
 use Rattle.containment.proofs.Deciding.{mapsInto, leastMapping, least-mapping, tells-maps, tells-contained}

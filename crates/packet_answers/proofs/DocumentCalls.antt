@@ -18,7 +18,6 @@ use Rattle.tables.proofs.Outcomes.{refuses-front, passes-front, passes-rest}
 use Rattle.halves.specs.Bytes.{halfBytes}
 use Rattle.packets.specs.PatternPacket.{packetPattern, patternChecks}
 use Rattle.packets.specs.DocumentPacket.{packetDocument, documentRules}
-use Rattle.packets.proofs.Views.{read-of, read-document-of}
 use Rattle.placing.specs.Answer.{Begins}
 use Rattle.answers.specs.Answers.{Found, HasRoom, FindsAnswers}
 use Rattle.packet_answers.specs.Documents.{AnswersPut, nodesRoom, AnswersPackets}

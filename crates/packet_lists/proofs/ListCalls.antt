@@ -2,7 +2,6 @@
 use Prim.Native.Nat.{ℕ, zero, suc, _≤_, _<_}
 use mathlib.Core.Path.{_≡_, refl, subst}
 use mathlib.Core.List.{List}
-use native.Mathlib.Omega.{arith}
 use lib.ListN.{length, getD}
 use Rattle.tables.specs.Document.{Document, nodeCount}
 use Rattle.tables.specs.Pattern.{Shape, shapeOf}
@@ -12,7 +11,6 @@ use Rattle.tables.specs.declared.Counted.{Counted}
 use Rattle.tables.specs.declared.Counted.the-variants as counted
 use Rattle.tables.proofs.Outcomes.{refuses-front, passes-front, passes-rest, counted-rest}
 use Rattle.packets.specs.PatternPacket.{packetPattern, patternChecks, ReadsPattern}
-use Rattle.packets.specs.DocumentPacket.{documentRules, listsCheck}
 use Rattle.packets.specs.declared.PatternRead.{PatternRead}
 use Rattle.packets.proofs.Views.{read-document-of, nodes-few, pattern-told}
 use Rattle.placing.specs.Answer.{Begins, Started, In, Ascending, Lists}

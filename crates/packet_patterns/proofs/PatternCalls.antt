@@ -22,7 +22,6 @@ use Rattle.packets.proofs.Views.{read-of, pattern-told, two-told}
 use Rattle.joining.specs.Join.{joinOf, joinShape, joinChecks, Joins}
 use Rattle.joining.specs.declared.JoinAnswer.{JoinAnswer}
 use Rattle.joining.proofs.Called.{called-valid}
-use Rattle.joining.proofs.Joined.{pair-of}
 use Rattle.rewriting.specs.Rewriting.{AnswersRewriting, Rewrites, rewritingChecks}
 use Rattle.rewriting.specs.declared.Rewriting.{Rewriting}
 use Rattle.rewriting.specs.declared.Rewriting.the-variants as rewriting

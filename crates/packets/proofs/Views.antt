@@ -41,9 +41,6 @@ pub record Read (bs : List ℕ) : Type 0 where
 pub read-of : (bs : List ℕ) → Passes (patternChecks bs) → Read bs
 read-of bs p = record { head = head-of bs 1 64 (p .0, (p .1 .0, (p .1 .1 .0, tt))); right = p .1 .1 .1 .0 }
 
-pub read-passes : {bs : List ℕ} → Read bs → Passes (patternChecks bs)
-read-passes {bs} r = passes-both (headChecks bs 1 64) (patternRight (packetPattern bs)) (head-passes (r .head)) (r .right, tt)
-
 -- a document packet is right
 pub record ReadDocument (bs : List ℕ) : Type 0 where
   pub head : Head bs 0 2048
@@ -69,9 +66,6 @@ two-of bs cs p = record {
   first = read-of bs (passes-front (patternChecks bs) (patternChecks cs) p);
   second = read-of cs (passes-rest (patternChecks bs) (patternChecks cs) p);
 }
-
-pub two-passes : {bs cs : List ℕ} → TwoRight bs cs → Passes (patternChecks bs ++ patternChecks cs)
-two-passes {bs} {cs} t = passes-both (patternChecks bs) (patternChecks cs) (read-passes (t .first)) (read-passes (t .second))
 
 -- what a call that reads a pattern says of its answer
 pub pattern-told : (bs : List ℕ) (x : PatternRead) (b : Checked) → ReadsPattern bs x → x .answer ≡ b

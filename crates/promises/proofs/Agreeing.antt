@@ -1,6 +1,6 @@
 -- Shapes that agree on their steps are placed alike, have the same answers, and are sent into alike; checks that ask the same refuse alike. Assumes nothing.
 use Prim.Native.Nat.{ℕ, zero, suc, _<_}
-use mathlib.Core.Path.{_≡_, sym, _∙_, subst}
+use mathlib.Core.Path.{_≡_, refl, sym, _∙_, subst}
 use mathlib.Core.Logic.{inl, inr, ⊎-elim, _↔_}
 use mathlib.Core.List.{List, [], _∷_}
 use Rattle.tables.specs.Tree.{Child, From, Rows}
@@ -35,6 +35,10 @@ SameChecks [] [] = Unit {0}
 SameChecks [] (d ∷ ds) = ⊥
 SameChecks (c ∷ cs) [] = ⊥
 SameChecks (c ∷ cs) (d ∷ ds) = (c .asks ↔ d .asks) × (c .gives ≡ d .gives) × (c .asks → SameChecks cs ds)
+
+-- a check that asks the same in both, and those after it
+pub alike : {X Y R : Type 0} {k : ℕ} → X ↔ Y → (X → R) → (X ↔ Y) × (k ≡ k) × (X → R)
+alike h f = (h, refl, f)
 
 -- they pass together
 pub passes-alike : (cs ds : List Check) → SameChecks cs ds → Passes cs → Passes ds

@@ -18,7 +18,7 @@ use Rattle.packets.specs.PatternPacket.{lengthOf, writeChecks, PacketPut, Write
 use Rattle.packets.proofs.PatternTrip.{pattern-packet-agree}
 use Rattle.answers.specs.Answers.{answerChecks, startedChecks, FindsAnswers, FindsStarted}
 use Rattle.promises.specs.SameSteps.{SameSteps}
-use Rattle.promises.proofs.Agreeing.{same-agree, decided-alike, counted-alike}
+use Rattle.promises.proofs.Agreeing.{same-agree, alike, decided-alike, counted-alike}
 use Rattle.promises.proofs.Agreeing.{reaches-alike, begins-alike, fits-alike}
 use Rattle.promises.proofs.Starting.{found-alike}
 
@@ -29,14 +29,14 @@ valid-alike e = (valid-agree (same-agree e), valid-agree (agree-sym (same-agree 
 module _ {p q : Pattern} (e : SameSteps p q) where
   -- the check of a pattern
   pub check-fit : (r : Checked) → ChecksPattern p r → ChecksPattern q r
-  check-fit r = decided-alike (patternRight p) (patternRight q) r _ _ _ _ (valid-alike e, refl, λ v. tt) (λ v x. x) (λ x. x)
+  check-fit r = decided-alike (patternRight p) (patternRight q) r _ _ _ _ (alike (valid-alike e) (λ v. tt)) (λ v x. x) (λ x. x)
 
   -- writing its packet
   pub write-fit : (before : List ℕ) (r : Counted) (a : List ℕ) → WritesPattern p before r a → WritesPattern q before r a
   write-fit before r a =
       let n : lengthOf p ≡ lengthOf q = omega (arith, e .count) in
       counted-alike (writeChecks p (length before)) (writeChecks q (length before)) r (λ c. PacketPut p before c a) (λ c. PacketPut q before c a) (a ≡ before)
-      (valid-alike e, refl, λ v. ((λ x. omega (arith, n), λ x. omega (arith, n)), refl, λ w. tt))
+      (alike (valid-alike e) (λ v. alike (λ x. omega (arith, n), λ x. omega (arith, n)) (λ w. tt)))
       (λ v c w. (w .0 ∙ n, w .1 ∙ ap (λ xs. xs ++ drop c before) (pattern-packet-agree (same-agree e))))
 
   -- the Answers call
@@ -44,7 +44,7 @@ module _ {p q : Pattern} (e : SameSteps p q) where
   answers-fit d l₀ w₀ r l w =
       let a = same-agree e in let b = agree-sym a in
       counted-alike (answerChecks p d (length l₀) (length w₀)) (answerChecks q d (length l₀) (length w₀)) r _ _ _
-      (valid-alike e, refl, λ v. ((λ x. x, λ x. x), refl, λ x. ((λ y. y, λ y. y), refl, λ y. tt)))
+      (alike (valid-alike e) (λ v. alike (λ x. x, λ x. x) (λ x. alike (λ y. y, λ y. y) (λ y. tt))))
       (λ v c. found-alike {First = Begins (shapeOf p)} {Other = Begins (shapeOf q)} (e .output) (fits-alike a d) (fits-alike b d)
       (reaches-alike a (begins-alike a (v .0 .some))) (reaches-alike b (begins-alike b (valid-alike e .0 (v .0) .some))) (e .count) l₀ w₀ c l w)
 
@@ -53,14 +53,8 @@ module _ {p q : Pattern} (e : SameSteps p q) where
       r l w
   started-fit d starts l₀ w₀ r l w =
       let a = same-agree e in let b = agree-sym a in
-      counted-alike (startedChecks p d starts (length l₀) (length w₀)) (startedChecks q d starts (length l₀) (length w₀)) r _ _ _ (
-        valid-alike e,
-        refl,
-        λ v. (
-          (λ x. x, λ x. x),
-          refl,
-          λ x. ((λ y. (sym (e .axis 0 (v .some)) ∙ y .0, y .1), λ y. (e .axis 0 (v .some) ∙ y .0, y .1)), refl, λ y. ((λ z. z, λ z. z), refl, λ z. tt)),
-        ),
-      )
+      counted-alike (startedChecks p d starts (length l₀) (length w₀)) (startedChecks q d starts (length l₀) (length w₀)) r _ _ _
+      (alike (valid-alike e) (λ v. alike (λ x. x, λ x. x) (λ x. alike (λ y. (sym (e .axis 0 (v .some)) ∙ y .0, y .1), λ y. (e .axis 0 (v .some) ∙ y .0, y .1))
+      (λ y. alike (λ z. z, λ z. z) (λ z. tt)))))
       (λ v c. found-alike {First = In starts} {Other = In starts} (e .output) (fits-alike a d) (fits-alike b d)
       (reaches-alike a (λ i x. x)) (reaches-alike b (λ i x. x)) (e .count) l₀ w₀ c l w)

@@ -23,8 +23,7 @@ use Rattle.rewriting.specs.Rewriting.{Serves, rewritingChecks, AnswersRewriting
 use Rattle.rewriting.specs.declared.Rewriting.{Rewriting}
 use Rattle.rewriting.specs.declared.Rewriting.the-variants as rewriting
 use Rattle.promises.specs.SameSteps.{SameSteps}
-use Rattle.promises.proofs.Agreeing.{same-agree, same-sym, SameChecks, passes-alike, refuses-alike, decided-alike}
-use Rattle.promises.proofs.Agreeing.{answer-alike}
+use Rattle.promises.proofs.Agreeing.{same-agree, same-sym, SameChecks, alike, passes-alike, refuses-alike, decided-alike, answer-alike}
 use Rattle.promises.proofs.AgreeingPairs.{contained-alike, least-alike, fresh-alike, size-alike, node-alike, witness-alike, join-alike, candidate-alike}
 use Rattle.promises.proofs.Moved.{valid-alike}
 
@@ -32,19 +31,10 @@ module _ {A A′ B B′ : Pattern} (e : SameSteps A A′) (f : SameSteps B B′)
   -- what containment checks
   contains-checks : (a b : ℕ) → SameChecks (containmentChecks A B a b) (containmentChecks A′ B′ a b)
   contains-checks a b =
-      let x = same-agree e in let y = same-agree f in let n : witnessSize (shapeOf A) ≡ witnessSize (shapeOf A′) = size-alike x in (
-        valid-alike e,
-        refl,
-        λ u. (
-          valid-alike f,
-          refl,
-          λ v. (
-            (λ w. (w .0, fresh-alike x y (w .0) (w .1)), λ w. (w .0, fresh-alike (agree-sym x) (agree-sym y) (w .0) (w .1))),
-            refl,
-            λ w. ((λ z. (omega (arith, n, z .0), omega (arith, n, z .1)), λ z. (omega (arith, n, z .0), omega (arith, n, z .1))), refl, λ z. tt),
-          ),
-        ),
-      )
+      let x = same-agree e in let y = same-agree f in let n : witnessSize (shapeOf A) ≡ witnessSize (shapeOf A′) = size-alike x in
+      alike (valid-alike e) (λ u. alike (valid-alike f) (λ v. alike
+      (λ w. (w .0, fresh-alike x y (w .0) (w .1)), λ w. (w .0, fresh-alike (agree-sym x) (agree-sym y) (w .0) (w .1)))
+      (λ w. alike (λ z. (omega (arith, n, z .0), omega (arith, n, z .1)), λ z. (omega (arith, n, z .0), omega (arith, n, z .1))) (λ z. tt))))
 
   -- containment
   pub contains-fit : (parents₀ labels₀ : List ℕ) (r : Containment) (m : List StepNo) (parents labels : List ℕ)
@@ -88,7 +78,7 @@ module _ {A A′ B B′ : Pattern} (e : SameSteps A A′) (f : SameSteps B B′)
 
   -- equality
   equal-checks : SameChecks (pairChecks A B) (pairChecks A′ B′)
-  equal-checks = (valid-alike e, refl, λ u. (valid-alike f, refl, λ v. tt))
+  equal-checks = alike (valid-alike e) (λ u. alike (valid-alike f) (λ v. tt))
 
   equal-same : ValidPattern A → ValidPattern B → Equal (shapeOf A) (shapeOf B) → Equal (shapeOf A′) (shapeOf B′)
   equal-same u v h = let x = same-agree e in let y = same-agree f in record {
@@ -98,26 +88,11 @@ module _ {A A′ B B′ : Pattern} (e : SameSteps A A′) (f : SameSteps B B′)
 
   -- joining
   join-checks : SameChecks (joinChecks A B) (joinChecks A′ B′)
-  join-checks = (
-    valid-alike e,
-    refl,
-    λ u. (
-      valid-alike f,
-      refl,
-      λ v. (
-        (λ x. sym (f .axis 0 (v .some)) ∙ x, λ x. f .axis 0 (v .some) ∙ x),
-        refl,
-        λ x. (
-          (
-            λ y. ap (shapeOf A′ .label) (sym (e .output)) ∙ sym (e .label (A .output .0) (u .output)) ∙ y ∙ f .label 0 (v .some),
-            λ y. e .label (A .output .0) (u .output) ∙ ap (shapeOf A′ .label) (e .output) ∙ y ∙ sym (f .label 0 (v .some)),
-          ),
-          refl,
-          λ y. ((λ z. omega (arith, e .count, f .count), λ z. omega (arith, e .count, f .count)), refl, λ z. tt),
-        ),
-      ),
-    ),
+  join-checks = alike (valid-alike e) (λ u. alike (valid-alike f) (λ v. alike (λ x. sym (f .axis 0 (v .some)) ∙ x, λ x. f .axis 0 (v .some) ∙ x) (λ x. alike (
+    λ y. ap (shapeOf A′ .label) (sym (e .output)) ∙ sym (e .label (A .output .0) (u .output)) ∙ y ∙ f .label 0 (v .some),
+    λ y. e .label (A .output .0) (u .output) ∙ ap (shapeOf A′ .label) (e .output) ∙ y ∙ sym (f .label 0 (v .some)),
   )
+      (λ y. alike (λ z. omega (arith, e .count, f .count), λ z. omega (arith, e .count, f .count)) (λ z. tt)))))
 
   pub join-fit : (r : JoinAnswer) → Joins A B r → Joins A′ B′ r
   join-fit r =
@@ -147,19 +122,8 @@ serves-alike {Q} {Q′} {U} {U′} e f v E h =
 module _ {Q Q′ U U′ : Pattern} (e : SameSteps Q Q′) (f : SameSteps U U′) where
   -- rewriting
   rewrite-checks : SameChecks (rewritingChecks Q U) (rewritingChecks Q′ U′)
-  rewrite-checks = (
-    valid-alike e,
-    refl,
-    λ u. (
-      valid-alike f,
-      refl,
-      λ v. (
-        (λ x. (omega (arith, e .count, x .0), omega (arith, f .count, x .1)), λ x. (omega (arith, e .count, x .0), omega (arith, f .count, x .1))),
-        refl,
-        λ x. tt,
-      ),
-    ),
-  )
+  rewrite-checks = alike (valid-alike e) (λ u. alike (valid-alike f) (λ v. alike
+      (λ x. (omega (arith, e .count, x .0), omega (arith, f .count, x .1)), λ x. (omega (arith, e .count, x .0), omega (arith, f .count, x .1))) (λ x. tt)))
 
   pub rewrite-fit : (r : Rewriting) (p : Pattern) → AnswersRewriting Q U r p → AnswersRewriting Q′ U′ r p
   rewrite-fit rewriting.Handed p h = (

@@ -51,10 +51,6 @@ marks-without x y P Q m n =
       only = λ s e. let o = bit-without x y s in let hx = bit-lt x s in (m .only s (omega arith), λ q. let f = n .put s q in omega arith);
     }
 
--- the marks of x, k places lower
-pub marks-shr : (x k : ℕ) (P : ℕ → Type 0) → Marks x P → Marks (x / 2 ^ k) (λ (s : ℕ). P (k + s))
-marks-shr x k P m = record { put = λ s a. bit-shr x k s ∙ m .put (k + s) a; only = λ s e. m .only (k + s) (sym (bit-shr x k s) ∙ e) }
-
 -- a number whose bits all stand below k has k digits
 pub bits-lt : (k x : ℕ) → ((s : ℕ) → bit x s ≡ 1 → s < k) → x < 2 ^ k
 bits-lt k x h = let e = bits-same x (x % 2 ^ k) (λ s. go s (decLt s k)) in let l = mod-lt x (pow-pos k) in omega arith

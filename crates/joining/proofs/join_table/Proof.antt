@@ -4,7 +4,6 @@ use mathlib.Core.Path.{_≡_, refl, sym, ap, _∙_}
 use mathlib.Core.Logic.{⊎-elim}
 use native.Mathlib.Omega.{arith}
 use lib.ListN.{getD}
-use borrow.Author.Needs.{needs}
 use Rattle.tables.specs.Column.{stepNo}
 use Rattle.tables.specs.Pattern.{Shape, shapeOf, tableOf, ValidPattern}
 use Rattle.tables.specs.declared.Pattern.{Pattern}

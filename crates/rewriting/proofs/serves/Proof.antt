@@ -7,7 +7,6 @@ use Rattle.tables.specs.declared.Pattern.{Pattern}
 use Rattle.containment.specs.Mapping.{Equal}
 use Rattle.containment.proofs.Maps.{equal-sym}
 use Rattle.joining.proofs.Order.{join-valid}
-use borrow.Author.Needs.{needs}
 use Rattle.rewriting.proofs.serves.Statement.{statement}
 use Rattle.rewriting.proofs.serves.Tie as tie
 
