@@ -36,8 +36,7 @@ module _ (A B : Pattern) (parents₀ labels₀ parents labels parents′ labels�
   unfolding Same
   apart-unique c e x y m n z h k =
       let l : h .label ≡ k .label = fresh-unique (h .fresh) (k .fresh) in
-      let u : c ≡ e = h .count ∙ sym (k .count) in
-      let w : x ≡ y = h .node ∙ sym (k .node) in
+      let u : c ≡ e = h .count ∙ sym (k .count) in let w : x ≡ y = h .node ∙ sym (k .node) in
       let p : witnessOf (shapeOf A) (h .label) ≡ witnessOf (shapeOf A) (k .label) = ap (witnessOf (shapeOf A)) l in (
         ap₂ containment.Apart u w,
         z,

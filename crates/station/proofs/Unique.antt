@@ -16,9 +16,7 @@ use Rattle.station.specs.Code.{codeOf, Coded}
 
 -- one answer and one Z: one number and one Z
 coded-unique : {Z : Type 0} (P Q : Counted → Type 0) (r q : ℤ) → ((a b : Counted) → P a → Q b → (a ≡ b) × Z) → Coded P r → Coded Q q → (r ≡ q) × Z
-coded-unique P Q r q u h k =
-    let s = u (h .answer) (k .answer) (h .holds) (k .holds) in
-    (h .code ∙ ap codeOf (s .0) ∙ sym (k .code), s .1)
+coded-unique P Q r q u h k = let s = u (h .answer) (k .answer) (h .holds) (k .holds) in (h .code ∙ ap codeOf (s .0) ∙ sym (k .code), s .1)
 
 -- the entries with a room
 module _ (r q : ℤ) (room₀ room room′ : List ℕ) where

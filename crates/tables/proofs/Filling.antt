@@ -32,8 +32,7 @@ pub filled-next : {A : Shape} {k : ℕ} {p : Pattern} (x y z : ℕ) → Filled A
       axis = set (p .axis) k y;
       label = set (p .label) k z;
       count = p .count;
-      output = p
-          .output;
+      output = p .output;
     })
 filled-next {A} {k} {p} x y z f l ex ey ez = record {
   low = omega arith;

@@ -51,10 +51,7 @@ put-third-requires c κs =
     let l = lists-start (x .args .v) d (x .pre .1 .0) (take (f .result) (f .last .1 .1 .1 .0)) (f .ensures .lists) in
     let m = lists-start (x .args .q) d (x .pre .0) (take (y .find2 .result) (y .find2 .last .1 .1 .1 .0)) (y .find2 .ensures .lists) in (
       x .pre .0,
-      (
-        x .pre .1 .0,
-        (x .pre .1 .1 .0, (search (l, m), omega (arith, x .pre .1 .1 .1, p .ensures .end, p .kept .0, s .ensures .end, s .kept .0, v, q))),
-      ),
+      (x .pre .1 .0, (x .pre .1 .1 .0, (search (l, m), omega (arith, x .pre .1 .1 .1, p .ensures .end, p .kept .0, s .ensures .end, s .kept .0, v, q)))),
     )
 
 returns : tie.Need-returns

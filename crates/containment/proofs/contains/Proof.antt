@@ -42,6 +42,6 @@ contains-right-requires c κs =
     (valid (k .before), subst (ChecksPattern b) (x .enum-told2 .given .1) (k .check-pattern2 .ensures) .0 .0)
 
 pub contains-spec : {M : Type 1} → statement M
-contains-spec = tie.close (tie.spec (λ c κs. search needs) (λ c. search needs) (λ c κs. search needs) returns (λ c. search needs) (λ c κs. search needs)
-    (λ c. search needs) (λ c κs. search needs) returns-2 (λ c. search needs) contains-right-requires (λ c. search needs) (λ c. search needs)
-    (λ c. search needs))
+contains-spec = tie.close (tie.spec (λ c κs. search needs) (λ c. search needs) (λ c κs. search needs) returns (λ c. search needs)
+    (λ c κs. search needs) (λ c. search needs) (λ c κs. search needs) returns-2 (λ c. search needs) contains-right-requires (λ c. search needs)
+    (λ c. search needs) (λ c. search needs))

@@ -26,5 +26,4 @@ returns c =
     (c .before .before .before .before .before .before .one-bit .ensures)
 
 pub fit-steps-spec : {M : Type 1} → statement M
-fit-steps-spec = tie.close (tie.spec (λ c κs. search needs) (λ c κs. search needs) (λ c κs. search needs) (λ c κs. search needs)
-    fit-turns-requires returns)
+fit-steps-spec = tie.close (tie.spec (λ c κs. search needs) (λ c κs. search needs) (λ c κs. search needs) (λ c κs. search needs) fit-turns-requires returns)

@@ -84,7 +84,8 @@ returns c = λ B p e.
     (omega (arith, m .loop .inv .2))
 
 pub fit-turns-spec : {M : Type 1} → statement M
-fit-turns-spec = tie.close (tie.spec Inv-loop μ-loop (λ c. omega (arith, c .pre .0 .few)) loop-holds (λ c. omega arith) (λ c. omega arith) (λ c. omega arith)
-    (λ c. omega arith) (λ c. omega arith) (λ c. omega arith) (λ c. omega arith) (λ c. omega arith)
-    (λ c κs. c .before .before .before .before .before .pre .1 .0) (λ c. omega arith) (λ c κs. tt) (λ c. omega arith) hand-up-requires (λ c. omega arith)
-    loop-again (λ c. omega arith) (λ c. omega arith) (λ c. omega arith) (λ c κs. c .before .before .before .before .pre .1 .0) (λ c. omega arith) returns)
+fit-turns-spec = tie.close (tie.spec Inv-loop μ-loop (λ c. omega (arith, c .pre .0 .few)) loop-holds (λ c. omega arith) (λ c. omega arith)
+    (λ c. omega arith) (λ c. omega arith) (λ c. omega arith) (λ c. omega arith) (λ c. omega arith) (λ c. omega arith)
+    (λ c κs. c .before .before .before .before .before .pre .1 .0) (λ c. omega arith) (λ c κs. tt) (λ c. omega arith) hand-up-requires
+    (λ c. omega arith) loop-again (λ c. omega arith) (λ c. omega arith) (λ c. omega arith) (λ c κs. c .before .before .before .before .pre .1 .0)
+    (λ c. omega arith) returns)

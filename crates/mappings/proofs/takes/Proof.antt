@@ -19,8 +19,7 @@ returns-4 c =
     let h = c .before .before .before .before .before .has-bit in
     let t = tells-eq (c .before .before .before .before .before .before .args .own) 0 in (
       λ z. (λ e. (c .if3 .left, t .says z), h .ensures .0 (passed (h .result) (c .before .before .before .before .if1 .left))),
-      λ w. t .test
-          (w .0 (omega arith) .1),
+      λ w. t .test (w .0 (omega arith) .1),
     )
 
 pub takes-spec : {M : Type 1} → statement M

@@ -45,5 +45,5 @@ pub mark-starts-spec : {M : Type 1} → statement M
 mark-starts-spec = tie.close (tie.spec Inv-loop μ-loop loop-holds (λ c. omega arith) (λ c. omega arith)
     (λ c. slots _ (c .before .shared-slice-known .given _) .0) (λ c. slots _ (c .before .shared-slice-known .given _) .1)
     (λ c. slots _ (c .before .shared-slice-known .given _) .2) (λ c. slots _ (c .before .shared-slice-known .given _) .3)
-    (λ c. room (c .before .before .before) _ (omega arith)) (λ c. omega arith) (λ c. omega arith) loop-again (λ c. c .before .loop .inv .1 .same-length)
-    returns)
+    (λ c. room (c .before .before .before) _ (omega arith)) (λ c. omega arith) (λ c. omega arith) loop-again
+    (λ c. c .before .loop .inv .1 .same-length) returns)

@@ -51,6 +51,5 @@ returns-2 c =
 
 pub starts-right-spec : {M : Type 1} → statement M
 starts-right-spec = tie.close (tie.spec Inv-loop μ-loop loop-holds (λ c. omega arith) (λ c. omega arith)
-    (λ c. omega (arith, c .before .shared-slice-known .given (c .before .before .before .loop .k))) returns add-least (λ c. omega arith) (λ c. omega arith)
-    loop-again
-    returns-2)
+    (λ c. omega (arith, c .before .shared-slice-known .given (c .before .before .before .loop .k))) returns add-least (λ c. omega arith)
+    (λ c. omega arith) loop-again returns-2)

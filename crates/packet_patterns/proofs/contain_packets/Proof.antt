@@ -53,7 +53,6 @@ contain-packets-spec = tie.close (tie.spec (λ c κs. search needs) (λ c. searc
     (λ c. contains-unread (c .before .before .before .read-two .ensures) (c .before .read .given .0 .0) (c .before .read .given .1) refl)
     (λ c. search needs) (λ c. search needs) (λ c. search needs)
     (λ c κs. two-valid (c .before .before .before .before .read-two .ensures) (c .before .before .enum-told .given .1)) (λ c. search needs)
-    (λ c κs. search needs) (λ c. search needs)
-    (λ c. few (c .before) .0) (λ c. simp length-take (omega (arith, few (c .before .before) .0))) (λ c. few (c .before .before) .1)
-    (λ c. simp length-take (omega (arith, few (c .before .before .before) .1))) put-witness-requires (λ c. search needs) (λ c. search needs) returns-2
-    (λ c. search needs) returns-3 returns-4)
+    (λ c κs. search needs) (λ c. search needs) (λ c. few (c .before) .0) (λ c. simp length-take (omega (arith, few (c .before .before) .0)))
+    (λ c. few (c .before .before) .1) (λ c. simp length-take (omega (arith, few (c .before .before .before) .1))) put-witness-requires
+    (λ c. search needs) (λ c. search needs) returns-2 (λ c. search needs) returns-3 returns-4)

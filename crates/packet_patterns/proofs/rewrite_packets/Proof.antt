@@ -30,5 +30,4 @@ pub rewrite-packets-spec : {M : Type 1} → statement M
 rewrite-packets-spec = tie.close (tie.spec (λ c κs. search needs) (λ c. search needs)
     (λ c. rewrite-unread (c .before .before .before .read-two .ensures) (c .before .read .given .0 .0) (c .before .read .given .1) refl)
     (λ c. search needs) (λ c κs. two-valid (c .before .before .read-two .ensures) (c .enum-told .given .1)) (λ c. search needs) (λ c κs. search needs)
-    (λ c. search needs) (λ c. search needs) (λ c. search needs)
-    returns-2 returns-3 returns-4)
+    (λ c. search needs) (λ c. search needs) (λ c. search needs) returns-2 returns-3 returns-4)

@@ -89,9 +89,8 @@ returns c =
     )
 
 pub gather-spec : {M : Type 1} → statement M
-gather-spec = tie.close (tie.spec Inv-loop μ-loop loop-holds (λ c. omega arith) (λ c. omega arith) (λ c κs. omega arith) (λ c κs. few (c .before .before))
-    (λ c. record { fits = omega (arith, few (c .before .before .before .before)) })
-    (λ c. record { fits = omega (arith, few (c .before .before .before .before)) })
-    (λ c. few (c .before .before .before .before)) (λ c. record { fits = omega (arith, few (c .before .before .before .before .before)) })
-    (λ c. few (c .before .before .before .before .before)) (λ c. omega arith) (λ c. omega arith) (λ c. omega arith) add-if2 (λ c. omega arith)
-    (λ c. omega arith) loop-again returns)
+gather-spec = tie.close (tie.spec Inv-loop μ-loop loop-holds (λ c. omega arith) (λ c. omega arith) (λ c κs. omega arith)
+    (λ c κs. few (c .before .before)) (λ c. record { fits = omega (arith, few (c .before .before .before .before)) })
+    (λ c. record { fits = omega (arith, few (c .before .before .before .before)) }) (λ c. few (c .before .before .before .before))
+    (λ c. record { fits = omega (arith, few (c .before .before .before .before .before)) }) (λ c. few (c .before .before .before .before .before))
+    (λ c. omega arith) (λ c. omega arith) (λ c. omega arith) add-if2 (λ c. omega arith) (λ c. omega arith) loop-again returns)

@@ -51,7 +51,7 @@ returns c =
 
 pub label-steps-spec : {M : Type 1} → statement M
 label-steps-spec = tie.close (tie.spec Inv-loop μ-loop loop-holds (λ c. omega arith) (λ c. omega arith) (λ c. omega arith)
-    (λ c. record { fits = omega (arith, small (c .before)) }) (λ c. omega arith) (λ c κs. omega arith) (λ c. omega arith) (λ c. omega arith) (λ c. omega arith)
-    (λ c. omega arith) (λ c. record { fits = omega (arith, small (c .before .before .before)) })
+    (λ c. record { fits = omega (arith, small (c .before)) }) (λ c. omega arith) (λ c κs. omega arith) (λ c. omega arith) (λ c. omega arith)
+    (λ c. omega arith) (λ c. omega arith) (λ c. record { fits = omega (arith, small (c .before .before .before)) })
     (λ c. omega (arith, small (c .before .before .before))) mul-high-2 (λ c. omega (arith, small (c .before .before .before .before)))
     (λ c. omega arith) (λ c. omega arith) loop-again returns)

@@ -73,8 +73,9 @@ loop-again : tie.Need-loop-again Inv-loop μ-loop
 loop-again c = let x = c .before .before in (up x .1, inr (first-labels (x .before .before .before .before)))
 
 pub agree-spec : {M : Type 1} → statement M
-agree-spec = tie.close (tie.spec Inv-loop μ-loop loop-holds (λ c. omega (arith, query-few (c .before))) (λ c. omega (arith, view-few (c .before .before)))
-    (λ c. record { fits = omega (arith, query-few (c .before .before)) }) (λ c. query-few (c .before .before))
-    (λ c. record { fits = omega (arith, view-few (c .before .before .before)) }) (λ c. view-few (c .before .before .before))
-    (λ c. query-few (c .before .before .before .before .before)) (λ c. view-few (c .before .before .before .before .before .before)) returns returns-2
-    (λ c. query-few (looked c)) (λ c. view-few (looked (c .before))) (λ c. up (c .before .before) .0) loop-again)
+agree-spec = tie.close (tie.spec Inv-loop μ-loop loop-holds (λ c. omega (arith, query-few (c .before)))
+    (λ c. omega (arith, view-few (c .before .before))) (λ c. record { fits = omega (arith, query-few (c .before .before)) })
+    (λ c. query-few (c .before .before)) (λ c. record { fits = omega (arith, view-few (c .before .before .before)) })
+    (λ c. view-few (c .before .before .before)) (λ c. query-few (c .before .before .before .before .before))
+    (λ c. view-few (c .before .before .before .before .before .before)) returns returns-2 (λ c. query-few (looked c))
+    (λ c. view-few (looked (c .before))) (λ c. up (c .before .before) .0) loop-again)

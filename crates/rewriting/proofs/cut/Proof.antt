@@ -69,10 +69,11 @@ returns c =
 
 pub cut-spec : {M : Type 1} → statement M
 cut-spec = tie.close (tie.spec Inv-loop μ-loop (λ c κs. (c .pre .0, low c .0)) (λ c. omega (arith, low (c .before .before) .0))
-    (λ c. omega (arith, low (c .before .before .before) .1)) (λ c. omega arith) (λ c. omega arith) (λ c. omega (arith, low (c .before .before .before) .0))
-    (λ c. omega (arith, low (c .before .before .before) .0)) (λ c. omega (arith, low (c .before .before .before .before) .0)) loop-holds
-    (λ c. omega (arith, late c .0)) (λ c. omega (arith, late c .0)) (λ c. omega (arith, late (c .before) .1)) (λ c. omega (arith, late (c .before) .0))
-    (λ c. omega (arith, late (c .before) .0)) (λ c. omega (arith, late (c .before) .0)) (λ c. omega (arith, late (c .before .before) .0))
-    (λ c. omega (arith, late (c .before .before) .0)) (λ c. omega (arith, late (c .before .before) .0)) (λ c. omega (arith, late (c .before .before) .0))
-    (λ c. omega (arith, late (c .before .before .before) .0)) (λ c. omega (arith, late (c .before .before .before) .0)) (λ c. omega arith) (λ c. omega arith)
-    loop-again returns)
+    (λ c. omega (arith, low (c .before .before .before) .1)) (λ c. omega arith) (λ c. omega arith)
+    (λ c. omega (arith, low (c .before .before .before) .0)) (λ c. omega (arith, low (c .before .before .before) .0))
+    (λ c. omega (arith, low (c .before .before .before .before) .0)) loop-holds (λ c. omega (arith, late c .0)) (λ c. omega (arith, late c .0))
+    (λ c. omega (arith, late (c .before) .1)) (λ c. omega (arith, late (c .before) .0)) (λ c. omega (arith, late (c .before) .0))
+    (λ c. omega (arith, late (c .before) .0)) (λ c. omega (arith, late (c .before .before) .0)) (λ c. omega (arith, late (c .before .before) .0))
+    (λ c. omega (arith, late (c .before .before) .0)) (λ c. omega (arith, late (c .before .before) .0))
+    (λ c. omega (arith, late (c .before .before .before) .0)) (λ c. omega (arith, late (c .before .before .before) .0)) (λ c. omega arith)
+    (λ c. omega arith) loop-again returns)

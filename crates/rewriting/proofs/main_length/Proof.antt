@@ -27,5 +27,5 @@ returns c = let l = c .before .before in
     omega (arith, main-length (l .before .before .pre), climbed-all (l .before .before .pre) (l .loop .inv) (omega arith))
 
 pub main-length-spec : {M : Type 1} → statement M
-main-length-spec = tie.close (tie.spec Inv-loop μ-loop loop-holds (λ c. search needs) (λ c. search needs) (λ c. search needs) loop-less
-    loop-again (λ c. search needs) returns)
+main-length-spec = tie.close (tie.spec Inv-loop μ-loop loop-holds (λ c. search needs) (λ c. search needs) (λ c. search needs) loop-less loop-again
+    (λ c. search needs) returns)

@@ -77,6 +77,5 @@ returns-4 c =
     (passes (y .before .before .before), there y, record { joinable = joinable y; equal = w .ensures .0 (passed (w .result) (c .if4 .left)) })
 
 pub rewrite-right-spec : {M : Type 1} → statement M
-rewrite-right-spec = tie.close (tie.spec (λ c κs. search needs) returns
-    (λ c κs. let p = passes c in (p .0, p .1 .0)) (λ c κs. search needs) returns-2
+rewrite-right-spec = tie.close (tie.spec (λ c κs. search needs) returns (λ c κs. let p = passes c in (p .0, p .1 .0)) (λ c κs. search needs) returns-2
     (λ c κs. (passes (c .before .before .before .before) .0, joinable (c .before))) (λ c κs. search needs) returns-3 returns-4)

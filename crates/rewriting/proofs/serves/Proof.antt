@@ -12,9 +12,7 @@ use Rattle.rewriting.proofs.serves.Tie as tie
 
 -- what is compared with the query obeys the rules
 valid : tie.Need-same-requires
-valid c κs =
-    let a = c .before .args in
-    (c .before .pre .0, subst ValidPattern (sym (c .join-table .ensures)) (join-valid (a .v) (a .e) (c .before .pre .1)))
+valid c κs = let a = c .before .args in (c .before .pre .0, subst ValidPattern (sym (c .join-table .ensures)) (join-valid (a .v) (a .e) (c .before .pre .1)))
 
 returns : tie.Need-returns
 returns c =

@@ -9,5 +9,4 @@ returns c = search needs
 
 pub nishkavel-list-started-spec : {M : Type 1} → statement M
 nishkavel-list-started-spec = tie.close (tie.spec (λ c κs. search needs)
-    (λ c κs. started-small _ _ _ _ _ _ _ _ (c .before .before .before .before .list-started .ensures)) (λ c. search needs) (λ c. search needs)
-    returns)
+    (λ c κs. started-small _ _ _ _ _ _ _ _ (c .before .before .before .before .list-started .ensures)) (λ c. search needs) (λ c. search needs) returns)

@@ -25,10 +25,8 @@ loop-again c =
     (omega arith, padded-next (λ k. getD (c .before .before .args .t1) k (stepNo 0) .0) (l .numbers) (l .s) _ (omega arith) refl (l .inv .1))
 
 returns : tie.Need-returns Inv-loop μ-loop
-returns c =
-    let l = c .before .loop in let z : l .s ≡ 64 = omega arith in
-    (rw z at (l .inv .1)) ∙ bare-all (c .before .before .args .t1) (search needs)
+returns c = let l = c .before .loop in let z : l .s ≡ 64 = omega arith in (rw z at (l .inv .1)) ∙ bare-all (c .before .before .args .t1) (search needs)
 
 pub bare-numbers-spec : {M : Type 1} → statement M
-bare-numbers-spec = tie.close (tie.spec Inv-loop μ-loop loop-holds (λ c. search needs) (λ c. search needs) (λ c. search needs) (λ c. search needs) loop-again
-    returns)
+bare-numbers-spec = tie.close (tie.spec Inv-loop μ-loop loop-holds (λ c. search needs) (λ c. search needs) (λ c. search needs) (λ c. search needs)
+    loop-again returns)

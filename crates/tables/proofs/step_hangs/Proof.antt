@@ -37,5 +37,5 @@ returns-2 c =
     climb-ends (listed (now (s .args .parents))) 255 (s .args .s .0) (omega arith) (s .pre .0) (s .pre .1) (l .loop .inv) (omega arith)
 
 pub step-hangs-spec : {M : Type 1} → statement M
-step-hangs-spec = tie.close (tie.spec Inv-loop μ-loop (λ c. search needs) (λ c. search needs) returns (λ c. search needs)
-    loop-holds (λ c. search needs) (λ c. search needs) loop-less loop-again returns-2)
+step-hangs-spec = tie.close (tie.spec Inv-loop μ-loop (λ c. search needs) (λ c. search needs) returns (λ c. search needs) loop-holds
+    (λ c. search needs) (λ c. search needs) loop-less loop-again returns-2)

@@ -26,5 +26,4 @@ returns c =
     }) refl r
 
 pub place-nodes-spec : {M : Type 1} → statement M
-place-nodes-spec = tie.close (tie.spec (λ c κs. search needs) (λ c κs. search needs) place-turns-requires (λ c. search needs)
-    (λ c. search needs) returns)
+place-nodes-spec = tie.close (tie.spec (λ c κs. search needs) (λ c κs. search needs) place-turns-requires (λ c. search needs) (λ c. search needs) returns)

@@ -20,8 +20,7 @@ use Rattle.containment.proofs.choosing.choose.Statement.{statement}
 use Rattle.containment.proofs.choosing.choose.Tie as tie
 
 abbrev Inv-loop : tie.InvT-loop
-Inv-loop a fit b parents axes mapping₀ n t₀ mapping t =
-    (0 < t) × (t ≤ n) × ((f : ℕ → ℕ) × (mapping ≡ stepArray f t) × Chose (shapeOf b) (shapeOf a) t f)
+Inv-loop a fit b parents axes mapping₀ n t₀ mapping t = (0 < t) × (t ≤ n) × ((f : ℕ → ℕ) × (mapping ≡ stepArray f t) × Chose (shapeOf b) (shapeOf a) t f)
 
 abbrev μ-loop : tie.MeasureT-loop
 μ-loop a fit b parents axes mapping₀ n t₀ mapping t = n - t
@@ -52,9 +51,7 @@ small : (x : tie.In-loop Inv-loop μ-loop) → getD (x .before .loop .mapping) (
 small x = rw (image x) (able-ok (mapTask (shapeOf (start x .args .t2)) (shapeOf (start x .args .a))) (x .before .loop .inv .2 .2 .can _ (up x)) .0 .here)
 
 next-image-requires : tie.Need-next-image-requires Inv-loop μ-loop
-next-image-requires c κs =
-    let x = c .before .before .before .before in let v = start x .pre .0 in
-    (v .0 .few, omega (arith, v .1 .few), small x)
+next-image-requires c κs = let x = c .before .before .before .before in let v = start x .pre .0 in (v .0 .few, omega (arith, v .1 .few), small x)
 
 -- what was picked, and that something was
 picks : (c : tie.After-next-image Inv-loop μ-loop) → let x = c .before .before .before .before .before in

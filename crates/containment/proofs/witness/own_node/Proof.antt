@@ -26,5 +26,5 @@ returns : tie.Need-returns
 returns c = ap nodeNo (omega (arith, own c))
 
 pub own-node-spec : {M : Type 1} → statement M
-own-node-spec = tie.close (tie.spec (λ c. search needs) (λ c. search needs) (λ c κs. search needs) (λ c. record { fits = omega (arith, few c, own c) })
-    (λ c. record { fits = omega (arith, few c, own c) }) returns)
+own-node-spec = tie.close (tie.spec (λ c. search needs) (λ c. search needs) (λ c κs. search needs)
+    (λ c. record { fits = omega (arith, few c, own c) }) (λ c. record { fits = omega (arith, few c, own c) }) returns)
