@@ -1,24 +1,12 @@
 -- The answer list of the second pass, node by node, and what the start marks stand for. Assumes nothing.
-use Prim.Native.Nat.{ℕ, suc, _+_, _*_, _≤_, _<_}
-use mathlib.Core.Path.{_≡_, refl, sym, ap, _∙_, subst}
-use mathlib.Core.Logic.{_⊎_, inl, inr, ⊎-elim, _↔_}
-use mathlib.Core.List.{List, [], _∷_, _++_}
-use native.Mathlib.Omega.{arith}
-use native.Mathlib.Numerals.{add-one}
-use lib.ListN.{length, getD, set, length-append, length-set}
-use Rattle.tables.specs.Bits.{bit, Marks}
-use Rattle.tables.specs.Document.{Document, nodeCount, nodesOf}
-use Rattle.tables.specs.Pattern.{Shape, ValidShape}
-use Rattle.tables.proofs.Choice.{below-or-at}
-use Rattle.tables.proofs.Columns.{put-next}
-use Rattle.tables.proofs.Marks.{bit-cases, marks-one, marks-none, marks-to}
-use Rattle.placing.specs.Placement.{Reaches}
-use Rattle.placing.specs.Answer.{Started}
+use Rattle.tables.proofs.Kit.{ℕ, suc, _+_, _*_, _≤_, _<_, _≡_, refl, sym, ap, _∙_, subst, _⊎_, inl, inr, ⊎-elim, _↔_}
+use Rattle.tables.proofs.Kit.{List, [], _∷_, _++_, arith, add-one, length, getD, set, length-append, length-set}
+use Rattle.tables.specs.{Bits.{bit, Marks}, Document.{Document, nodeCount, nodesOf}, Pattern.{Shape, ValidShape}}
+use Rattle.tables.proofs.{Choice.below-or-at, Columns.put-next, Marks.{bit-cases, marks-one, marks-none, marks-to}}
+use Rattle.placing.specs.{Placement.Reaches, Answer.Started}
 use Rattle.placing.proofs.Listing.{lists-none, lists-more, lists-iff}
-use Rattle.answers.specs.Working.{PlacedAt}
-use Rattle.answers.specs.Answers.{Found}
+use Rattle.answers.specs.{Working.PlacedAt, Answers.Found, inner.Standing.{Ready, Downward, Listed}}
 use Rattle.marking.specs.Entries.{Marked, Noted}
-use Rattle.answers.specs.inner.Standing.{Ready, Downward, Listed}
 
 -- where two ways to say the start agree on the nodes, placements agree
 pub reaches-first : (A : Shape) (d : Document) (First Other : ℕ → Type 0) → ValidShape A → ((i : ℕ) → i < nodeCount d → First i → Other i) → (s i : ℕ)

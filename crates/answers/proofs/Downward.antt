@@ -1,25 +1,11 @@
 -- The second pass, node by node: where a step stands in a whole placement, and what its child steps may then take. Assumes nothing.
-use Prim.Native.Nat.{ℕ, zero, suc, _+_, _*_, _<_}
-use mathlib.Core.Path.{_≡_, refl, sym, _∙_, subst}
-use mathlib.Core.Logic.{_⊎_, inl, inr, ⊎-elim}
-use mathlib.Core.List.{List}
-use native.Mathlib.Omega.{arith}
-use native.Mathlib.Nat.{eq-zero-or-pos}
-use lib.Bits.{bitOr, bitAnd}
-use lib.ListN.{length, getD}
-use Rattle.tables.specs.Bits.{Marks}
-use Rattle.tables.specs.Tree.{Child, child}
-use Rattle.tables.specs.Document.{Document, nodeCount, nodesOf}
-use Rattle.tables.specs.Pattern.{Shape, ValidShape}
-use Rattle.tables.proofs.Choice.{below-or-at}
-use Rattle.tables.proofs.Marks.{marks-to, marks-or, marks-and}
-use Rattle.tables.proofs.Rules.{shape-ordered}
-use Rattle.tables.proofs.Trees.{below-lt, below-up, from-child}
+use Rattle.tables.proofs.Kit.{ℕ, zero, suc, _+_, _*_, _<_, _≡_, refl, sym, _∙_, subst, _⊎_, inl, inr, ⊎-elim}
+use Rattle.tables.proofs.Kit.{List, arith, eq-zero-or-pos, bitOr, bitAnd, length, getD}
+use Rattle.tables.specs.{Bits.Marks, Tree.{Child, child}, Document.{Document, nodeCount, nodesOf}, Pattern.{Shape, ValidShape}}
+use Rattle.tables.proofs.{Choice.below-or-at, Marks.{marks-to, marks-or, marks-and}, Rules.shape-ordered, Trees.{below-lt, below-up, from-child}}
 use Rattle.placing.specs.Placement.{Goes}
-use Rattle.placing.proofs.Fit.{Whole, whole-able, whole-root, whole-up, whole-down}
-use Rattle.placing.proofs.Sending.{task, reaches-whole}
-use Rattle.answers.specs.Working.{FitsAt, PlacedAt}
-use Rattle.answers.specs.inner.Standing.{Allowed, PassedOn, Downward}
+use Rattle.placing.proofs.{Fit.{Whole, whole-able, whole-root, whole-up, whole-down}, Sending.{task, reaches-whole}}
+use Rattle.answers.specs.{Working.{FitsAt, PlacedAt}, inner.Standing.{Allowed, PassedOn, Downward}}
 use Rattle.marking.proofs.Upward.{can}
 
 module _ (A : Shape) (d : Document) (First : ℕ → Type 0) (va : ValidShape A) where

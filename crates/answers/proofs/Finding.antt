@@ -1,20 +1,11 @@
 -- From the first pass to the second: how the starts are marked in both forms of the call. Assumes nothing.
-use Prim.Native.Nat.{ℕ, _+_, _*_, _≤_, _<_}
-use mathlib.Core.Path.{_≡_, ap, _∙_, subst}
-use mathlib.Core.Logic.{_⊎_, inl, inr, ⊎-elim, _↔_}
-use mathlib.Core.Bool.{Bool, true, false}
-use mathlib.Core.List.{List}
-use native.Mathlib.Omega.{arith}
-use native.Mathlib.Decide.{ℕ-discrete}
-use lib.ListN.{length, getD, set, length-set}
-use lib.Seq.{getD-set-same, getD-set-other}
-use Rattle.tables.specs.Document.{Document, nodeCount, ValidDocument}
-use Rattle.tables.specs.Pattern.{Shape, ValidShape}
+use Rattle.tables.proofs.Kit.{ℕ, _+_, _*_, _≤_, _<_, _≡_, ap, _∙_, subst, _⊎_, inl, inr, ⊎-elim, _↔_, Bool, true, false}
+use Rattle.tables.proofs.Kit.{List, arith, ℕ-discrete, length, getD, set, length-set, getD-set-same, getD-set-other}
+use Rattle.tables.specs.{Document.{Document, nodeCount, ValidDocument}, Pattern.{Shape, ValidShape}}
 use Rattle.tables.proofs.Tests.{Tells}
 use Rattle.placing.specs.Answer.{Begins, In}
-use Rattle.answers.specs.Answers.{Found}
+use Rattle.answers.specs.{Answers.Found, inner.Standing.Ready}
 use Rattle.marking.specs.Entries.{Fitted, Marked}
-use Rattle.answers.specs.inner.Standing.{Ready}
 use Rattle.answers.proofs.Tested.{isIn, tells-in}
 
 -- what the list held before the second pass matters only in its length and past the nodes' entries

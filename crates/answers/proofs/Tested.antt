@@ -1,24 +1,10 @@
 -- Answers and working entries by tests that run, proved to be what the definitions say. Assumes nothing.
-use Prim.Native.Nat.{ℕ, suc, _+_, _*_, _<_}
-use mathlib.Core.Path.{_≡_, refl, sym, ap, _∙_, subst}
-use mathlib.Core.Bool.{Bool, _&&_}
-use mathlib.Core.List.{List, [], _∷_}
-use native.Mathlib.Omega.{arith}
-use lib.Dec.{ltb, eqb}
-use lib.ListN.{length, getD}
-use Rattle.tables.specs.Bits.{Marks}
-use Rattle.tables.specs.Column.{blocks}
-use Rattle.tables.specs.Document.{Document, nodeCount, nodesOf, ValidDocument}
-use Rattle.tables.specs.Pattern.{Shape, ValidShape}
-use Rattle.tables.proofs.Columns.{blocks-length, blocks-at}
-use Rattle.tables.proofs.Marks.{mask, marks-mask}
-use Rattle.tables.proofs.Rules.{shape-ordered, document-ordered}
+use Rattle.tables.proofs.Kit.{ℕ, suc, _+_, _*_, _<_, _≡_, refl, sym, ap, _∙_, subst, Bool, _&&_, List, [], _∷_, arith, ltb, eqb, length, getD}
+use Rattle.tables.specs.{Bits.Marks, Column.blocks, Document.{Document, nodeCount, nodesOf, ValidDocument}, Pattern.{Shape, ValidShape}}
+use Rattle.tables.proofs.{Columns.{blocks-length, blocks-at}, Marks.{mask, marks-mask}, Rules.{shape-ordered, document-ordered}}
 use Rattle.tables.proofs.Tests.{Tells, tells-lt, tells-eq, tells-imp, tells-and, tells-iff, imp, every, tells-every, some, tells-some}
-use Rattle.placing.specs.Placement.{Reaches, ReachesFrom}
-use Rattle.placing.specs.Answer.{Begins, Started, In, Lists, StartList}
-use Rattle.placing.proofs.Listing.{passing, lists-passing, lists-iff}
-use Rattle.placing.proofs.Probe.{canSend, canWhole}
-use Rattle.placing.proofs.Sending.{probe, tells-reaches, tells-reaches-from}
+use Rattle.placing.specs.{Placement.{Reaches, ReachesFrom}, Answer.{Begins, Started, In, Lists, StartList}}
+use Rattle.placing.proofs.{Listing.{passing, lists-passing, lists-iff}, Probe.{canSend, canWhole}, Sending.{probe, tells-reaches, tells-reaches-from}}
 use Rattle.answers.specs.Working.{FitsAt, PlacedAt, Working}
 
 -- the tests for step 0's node, in both forms

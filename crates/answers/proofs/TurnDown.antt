@@ -1,19 +1,9 @@
 -- One node's turn in the second pass, from the numbers that the code computes. Assumes nothing.
-use Prim.Native.Nat.{ℕ, zero, suc, _+_, _*_, _<_}
-use mathlib.Core.Path.{_≡_, refl, sym, subst}
-use mathlib.Core.List.{List}
-use native.Mathlib.Omega.{arith}
-use native.Mathlib.Numerals.{add-one}
-use lib.Bits.{bitOr, bitAnd}
-use lib.ListN.{length, getD, set, length-set}
-use lib.Seq.{getD-set-same, getD-set-other}
-use Rattle.tables.specs.Bits.{bit, Marks}
-use Rattle.tables.specs.Tree.{Child}
-use Rattle.tables.specs.Document.{Document, nodeCount, nodesOf}
-use Rattle.tables.specs.Pattern.{Shape, ValidShape}
+use Rattle.tables.proofs.Kit.{ℕ, zero, suc, _+_, _*_, _<_, _≡_, refl, sym, subst, List, arith, add-one}
+use Rattle.tables.proofs.Kit.{bitOr, bitAnd, length, getD, set, length-set, getD-set-same, getD-set-other}
+use Rattle.tables.specs.{Bits.{bit, Marks}, Tree.Child, Document.{Document, nodeCount, nodesOf}, Pattern.{Shape, ValidShape}}
 use Rattle.tables.proofs.Marks.{marks-to, marks-none}
-use Rattle.answers.specs.Working.{PlacedAt}
-use Rattle.answers.specs.inner.Standing.{Allowed, PassedOn, Downward}
+use Rattle.answers.specs.{Working.PlacedAt, inner.Standing.{Allowed, PassedOn, Downward}}
 use Rattle.answers.proofs.Downward.{Over, node-placed, node-allowed, down-turn}
 
 module _ (A : Shape) (va : ValidShape A) (d : Document) (First : ℕ → Type 0) where

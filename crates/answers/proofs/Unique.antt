@@ -1,23 +1,11 @@
 -- No second count, answer list or working list fits the Answers call. Assumes nothing.
-use Prim.Native.Nat.{ℕ, _+_, _*_, _/_, _%_, _<_}
-use mathlib.Core.Path.{_≡_, sym, ap, ap₂, _∙_, subst}
-use mathlib.Core.List.{List, _++_}
-use native.Mathlib.Omega.{arith}
-use native.Mathlib.Decide.{decLt, ℕ-discrete}
-use lib.ListN.{length, getD, drop}
-use lib.Seq.{ext-getD}
-use Rattle.tables.specs.Document.{Document, nodeCount}
-use Rattle.tables.specs.Pattern.{Shape, shapeOf}
-use Rattle.tables.specs.Refusal.{Check, CountedBy}
-use Rattle.tables.specs.declared.Pattern.{Pattern}
-use Rattle.tables.specs.declared.Counted.{Counted}
-use Rattle.tables.proofs.Marks.{marks-unique}
-use Rattle.tables.proofs.Outcomes.{counted-both}
-use Rattle.tables.proofs.Refusals.{counted-unique}
+use Rattle.tables.proofs.Kit.{ℕ, _+_, _*_, _/_, _%_, _<_, _≡_, sym, ap, ap₂, _∙_, subst, List, _++_, arith, decLt, ℕ-discrete, length, getD, drop, ext-getD}
+use Rattle.tables.specs.{Document.{Document, nodeCount}, Pattern.{Shape, shapeOf}}
+use Rattle.tables.specs.{Refusal.{Check, CountedBy}, declared.Pattern.Pattern, declared.Counted.Counted}
+use Rattle.tables.proofs.{Marks.marks-unique, Outcomes.counted-both, Refusals.counted-unique}
 use Rattle.placing.specs.Answer.{Begins, Started, In}
 use Rattle.placing.proofs.Listing.{lists-unique}
-use Rattle.answers.specs.Working.{FitsAt, PlacedAt, Working}
-use Rattle.answers.specs.Answers.{Found, answerChecks, startedChecks, FindsAnswers, FindsStarted}
+use Rattle.answers.specs.{Working.{FitsAt, PlacedAt, Working}, Answers.{Found, answerChecks, startedChecks, FindsAnswers, FindsStarted}}
 
 module _ (A : Shape) (d : Document) (First : ℕ → Type 0) where
   working-unique : (work₀ w z : List ℕ) → Working A d First work₀ w → Working A d First work₀ z → w ≡ z

@@ -1,28 +1,16 @@
 -- Laws of the reply's parts: answers are node numbers, their lines fit, and what each outcome prints. Assumes nothing.
-use Prim.Native.Nat.{ℕ, _+_, _≤_, _<_}
-use mathlib.Core.Path.{_≡_, refl, sym, ap, _∙_, subst}
-use mathlib.Core.Logic.{⊎-elim}
-use mathlib.Core.List.{List, _++_}
-use native.Mathlib.Omega.{arith}
-use lib.ListN.{length, getD, take, drop, length-append}
-use lib.Seq.{take-at, length-take-le}
-use Rattle.tables.specs.Document.{Document, nodeCount, ValidDocument}
-use Rattle.tables.specs.Pattern.{Shape, shapeOf, zeroPattern, ValidPattern}
-use Rattle.tables.specs.Refusal.{number, Refuses}
-use Rattle.tables.specs.declared.Pattern.{Pattern}
-use Rattle.tables.specs.declared.Counted.{Counted}
-use Rattle.tables.specs.declared.Counted.the-variants.{Count}
-use Rattle.tables.specs.declared.Refusal.{Refusal}
+use Rattle.tables.proofs.Kit.{ℕ, _+_, _≤_, _<_, _≡_, refl, sym, ap, _∙_, subst, ⊎-elim, List, _++_}
+use Rattle.tables.proofs.Kit.{arith, length, getD, take, drop, length-append, take-at, length-take-le}
+use Rattle.tables.specs.{Document.{Document, nodeCount, ValidDocument}, Pattern.{Shape, shapeOf, zeroPattern, ValidPattern}, Refusal.{number, Refuses}}
+use Rattle.tables.specs.{declared.Pattern.Pattern, declared.Counted.Counted, declared.Counted.the-variants.Count, declared.Refusal.Refusal}
 use Rattle.tables.specs.declared.Refusal.the-variants.{Version, Length, BadPattern, BadDocument, Room, Start, OtherLabel, TooLarge, NoLabel}
 use Rattle.tables.proofs.Refusals.{number-unique}
 use Rattle.placing.specs.Answer.{Answer, Started, Lists, StartList}
 use Rattle.answers.specs.Answers.{Found}
 use Rattle.rewriting.specs.Rewriting.{rewritingChecks, AnswersRewriting}
 use Rattle.rewriting.specs.declared.Rewriting.the-variants as rewriting
-use Rattle.asking.specs.Text.{line, viewWord, queryWord}
-use Rattle.asking.specs.Replies.{Replies, Printed, ReplyOf}
-use Rattle.asking.specs.inner.Writing.{Wrote}
-use Rattle.asking.specs.inner.Answering.{Finds, WroteThird, WroteAnswers}
+use Rattle.asking.specs.{Text.{line, viewWord, queryWord}, Replies.{Replies, Printed, ReplyOf}}
+use Rattle.asking.specs.{inner.Writing.Wrote, inner.Answering.{Finds, WroteThird, WroteAnswers}}
 use Rattle.asking.proofs.Writing.{wrote-then, line-short}
 
 -- every refusal has a number of one digit

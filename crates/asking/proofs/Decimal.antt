@@ -1,11 +1,6 @@
 -- Decimal digits: how a number's digits follow from those of its tenth part, how many there are, and that reading them back gives the number. Assumes nothing.
-use Prim.Native.Nat.{ℕ, zero, suc, _+_, _*_, _-_, _/_, _%_, _≤_, _<_}
-use mathlib.Core.Path.{_≡_, refl, sym, ap, _∙_}
-use mathlib.Core.List.{List, [], _∷_, _++_}
-use native.Mathlib.Omega.{arith}
-use native.Mathlib.Decide.{decLt}
-use lib.ListN.{length, length-append}
-use borrow.Author.Tests.{lt-ltb, le-ltb}
+use Rattle.tables.proofs.Kit.{ℕ, zero, suc, _+_, _*_, _-_, _/_, _%_, _≤_, _<_, _≡_, refl, sym, ap, _∙_}
+use Rattle.tables.proofs.Kit.{List, [], _∷_, _++_, arith, decLt, length, length-append, lt-ltb, le-ltb}
 use Rattle.asking.specs.Text.{digits, decimal}
 
 -- one digit

@@ -1,19 +1,10 @@
 -- The first 8,716 bytes of an input decide what is printed: whatever follows them changes nothing. Assumes nothing.
-use Prim.Native.Nat.{ℕ, _+_, _*_, _-_, _≤_, _<_}
-use mathlib.Core.Path.{_≡_, sym, ap, ap₂, _∙_, subst}
-use mathlib.Core.Logic.{_⊎_, inl, inr, ⊎-elim}
-use mathlib.Core.List.{List, [], _∷_}
-use native.Mathlib.Omega.{arith}
-use native.Mathlib.Decide.{decLt}
-use lib.ListN.{length, getD, take, drop, length-drop}
-use lib.Seq.{take-all, take-take, take-add, length-take-le, getD-take, getD-drop, drop-at}
-use Rattle.tables.specs.Refusal.{Passes, Refuses}
-use Rattle.tables.specs.declared.Refusal.{Refusal}
+use Rattle.tables.proofs.Kit.{ℕ, _+_, _*_, _-_, _≤_, _<_, _≡_, sym, ap, ap₂, _∙_, subst, _⊎_, inl, inr, ⊎-elim, List, [], _∷_, arith, decLt}
+use Rattle.tables.proofs.Kit.{length, getD, take, drop, length-drop, take-all, take-take, take-add, length-take-le, getD-take, getD-drop, drop-at}
+use Rattle.tables.specs.{Refusal.{Passes, Refuses}, declared.Refusal.Refusal}
 use Rattle.halves.specs.Bytes.{half}
-use Rattle.packets.specs.PatternPacket.{patternChecks}
-use Rattle.packets.specs.DocumentPacket.{documentRules}
-use Rattle.asking.specs.Parts.{packetAt, nextAt}
-use Rattle.asking.specs.Replies.{Replies, document, view, query, extra, answered}
+use Rattle.packets.specs.{PatternPacket.patternChecks, DocumentPacket.documentRules}
+use Rattle.asking.specs.{Parts.{packetAt, nextAt}, Replies.{Replies, document, view, query, extra, answered}}
 
 -- the first three bytes of a packet are those of the input
 part-half : (bs : List ℕ) (o : ℕ) → half (packetAt bs o) 1 ≡ half bs (o + 1)

@@ -1,13 +1,6 @@
 -- Where the packets of an input begin and end, and what reading the document packet says of it. Assumes nothing.
-use Prim.Native.Nat.{ℕ, _+_, _-_, _≤_, _<_}
-use mathlib.Core.Path.{_≡_, sym, ap, _∙_}
-use mathlib.Core.List.{List}
-use native.Mathlib.Omega.{arith}
-use native.Mathlib.Decide.{decLt}
-use lib.ListN.{length, take, drop, length-drop}
-use lib.Seq.{take-all, length-take-le}
-use Rattle.tables.specs.Refusal.{Passes, Refuses}
-use Rattle.tables.specs.declared.Refusal.{Refusal}
+use Rattle.tables.proofs.Kit.{ℕ, _+_, _-_, _≤_, _<_, _≡_, sym, ap, _∙_, List, arith, decLt, length, take, drop, length-drop, take-all, length-take-le}
+use Rattle.tables.specs.{Refusal.{Passes, Refuses}, declared.Refusal.Refusal}
 use Rattle.tables.proofs.Outcomes.{last-holds}
 use Rattle.halves.specs.Bytes.{half}
 use Rattle.packets.specs.DocumentPacket.{nodesIn, documentChecks, documentRules}

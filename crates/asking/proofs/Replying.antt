@@ -1,28 +1,14 @@
 -- The outcomes of the reply, from what the calls on its packets answered: each is one text of `Replies`, printed at the front. Assumes nothing.
-use Prim.Native.Nat.{ℕ, _≤_, _<_}
-use mathlib.Core.Path.{_≡_, refl, sym, ap, _∙_, subst}
-use mathlib.Core.List.{List}
-use lib.ListN.{length, take, replicate}
-use native.Mathlib.Omega.{arith}
-use Rattle.tables.specs.Document.{Document, ValidDocument}
-use Rattle.tables.specs.Pattern.{zeroPattern, ValidPattern}
-use Rattle.tables.specs.Refusal.{number, Passes, Refuses, Decided}
-use Rattle.tables.specs.declared.Pattern.{Pattern}
-use Rattle.tables.specs.declared.Checked.{Checked}
+use Rattle.tables.proofs.Kit.{ℕ, _≤_, _<_, _≡_, refl, sym, ap, _∙_, subst, List, length, take, replicate, arith}
+use Rattle.tables.specs.{Document.{Document, ValidDocument}, Pattern.{zeroPattern, ValidPattern}, Refusal.{number, Passes, Refuses, Decided}}
+use Rattle.tables.specs.{declared.Pattern.Pattern, declared.Checked.Checked, declared.Counted.Counted, declared.Refusal.Refusal}
 use Rattle.tables.specs.declared.Checked.the-variants as checked
-use Rattle.tables.specs.declared.Counted.{Counted}
 use Rattle.tables.specs.declared.Counted.the-variants as counted
-use Rattle.tables.specs.declared.Refusal.{Refusal}
-use Rattle.packets.specs.PatternPacket.{packetPattern, patternChecks}
-use Rattle.packets.specs.DocumentPacket.{ReadsDocument, documentRules}
+use Rattle.packets.specs.{PatternPacket.{packetPattern, patternChecks}, DocumentPacket.{ReadsDocument, documentRules}}
 use Rattle.packets.proofs.Views.{read-of, read-document-of}
-use Rattle.asking.specs.Text.{documentWord, viewWord, queryWord, inputWord, refusedLine}
-use Rattle.asking.specs.Parts.{packetAt, nextAt, documentPart}
-use Rattle.asking.specs.Replies.{documentIn, document, view, query, extra, answered, Printed}
-use Rattle.asking.specs.inner.Writing.{Wrote}
-use Rattle.asking.specs.inner.Answering.{WroteAnswers}
-use Rattle.asking.proofs.Parts.{first-part, rules-refuse}
-use Rattle.asking.proofs.Answering.{printed}
+use Rattle.asking.specs.{Text.{documentWord, viewWord, queryWord, inputWord, refusedLine}, Parts.{packetAt, nextAt, documentPart}}
+use Rattle.asking.specs.{Replies.{documentIn, document, view, query, extra, answered, Printed}, inner.Writing.Wrote, inner.Answering.WroteAnswers}
+use Rattle.asking.proofs.{Parts.{first-part, rules-refuse}, Answering.printed}
 
 -- reading the pattern packet at byte o answers z, with the pattern p
 abbrev pub ReadAt : List ℕ → ℕ → Checked → Pattern → Type 0

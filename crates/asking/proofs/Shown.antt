@@ -1,6 +1,5 @@
 -- Lines of `ask` byte by byte: with two answers, with none, and that of a refusal (docs/RULES.md, "The program ask"). Assumes nothing.
-use mathlib.Core.Path.{_≡_, refl}
-use mathlib.Core.List.{[], _∷_}
+use Rattle.tables.proofs.Kit.{_≡_, refl, [], _∷_}
 use Rattle.tables.specs.Column.{blocks}
 use Rattle.asking.specs.Text.{digits, decimal, spaced, viewWord, documentWord, line, refusedLine}
 

@@ -1,28 +1,16 @@
 -- No second text fits an input, so no second count or buffer fits the call. Assumes nothing.
-use Prim.Native.Nat.{ℕ, _≤_}
-use mathlib.Core.Path.{_≡_, sym, ap, ap₂, _∙_, subst}
-use mathlib.Core.List.{List, [], _∷_, _++_}
-use native.Mathlib.Omega.{arith}
-use lib.ListN.{length, drop}
-use Rattle.tables.specs.Document.{Document}
-use Rattle.tables.specs.Pattern.{shapeOf}
-use Rattle.tables.specs.Refusal.{number, Check, Passes, Refuses}
-use Rattle.tables.specs.declared.Pattern.{Pattern}
-use Rattle.tables.specs.declared.Counted.{Counted}
-use Rattle.tables.specs.declared.Refusal.{Refusal}
-use Rattle.tables.specs.declared.Refusal.the-variants.{TooLarge}
-use Rattle.tables.proofs.Outcomes.{counted-both}
-use Rattle.tables.proofs.Refusals.{refuses-not-passes, refuses-unique, counted-unique}
-use Rattle.packets.specs.PatternPacket.{patternChecks}
+use Rattle.tables.proofs.Kit.{ℕ, _≤_, _≡_, sym, ap, ap₂, _∙_, subst, List, [], _∷_, _++_, arith, length, drop}
+use Rattle.tables.specs.{Document.Document, Pattern.shapeOf, Refusal.{number, Check, Passes, Refuses}, declared.Pattern.Pattern}
+use Rattle.tables.specs.{declared.Counted.Counted, declared.Refusal.Refusal, declared.Refusal.the-variants.TooLarge}
+use Rattle.tables.proofs.{Outcomes.counted-both, Refusals.{refuses-not-passes, refuses-unique, counted-unique}}
+use Rattle.packets.specs.{PatternPacket.patternChecks, DocumentPacket.documentRules}
 use Rattle.placing.specs.Answer.{Answer, Started, In, Lists}
 use Rattle.placing.proofs.Listing.{lists-unique}
 use Rattle.rewriting.specs.Rewriting.{rewritingChecks}
 use Rattle.rewriting.proofs.Rewritten.{candidate-unique}
-use Rattle.packets.specs.DocumentPacket.{documentRules}
 use Rattle.asking.specs.Text.{rewritingWord, viewWord, queryWord, documentWord, line, refusedLine}
-use Rattle.asking.specs.Parts.{documentPart, viewPart, queryPart}
-use Rattle.asking.specs.Replies.{ThirdLine, handed, none, refused, Answered, documentIn, queryIn, viewIn, Replies, document, view, query, extra}
-use Rattle.asking.specs.Replies.{answered, Printed, ReplyOf}
+use Rattle.asking.specs.{Parts.{documentPart, viewPart, queryPart}, Replies.{ThirdLine, handed, none, refused, Answered}}
+use Rattle.asking.specs.Replies.{documentIn, queryIn, viewIn, Replies, document, view, query, extra, answered, Printed, ReplyOf}
 
 -- one third line fits
 third-unique : (d : Document) (Q U : Pattern) (starts s t : List ℕ) → ThirdLine d Q U starts s → ThirdLine d Q U starts t → s ≡ t

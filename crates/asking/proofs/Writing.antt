@@ -1,16 +1,10 @@
 -- Laws of the writers: one byte, one text after another, and how long the lines are. Assumes nothing.
-use Prim.Native.Nat.{ℕ, zero, suc, _+_, _*_, _≤_, _<_}
-use mathlib.Core.Path.{_≡_, refl, sym, ap, ap₂, _∙_, subst}
-use mathlib.Core.List.{List, [], _∷_, _++_, append-assoc, append-nil}
-use native.Mathlib.Omega.{arith}
-use native.Mathlib.Nat.{add-zero}
-use native.Mathlib.Numerals.{add-one}
-use lib.ListN.{length, getD, take, drop, set, length-append, length-drop, length-set, take-append-drop}
-use lib.Seq.{set-split, length-take-le, take-suc, take-all, append-snoc}
+use Rattle.tables.proofs.Kit.{ℕ, zero, suc, _+_, _*_, _≤_, _<_, _≡_, refl, sym, ap, ap₂, _∙_, subst, List, [], _∷_, _++_, append-assoc, append-nil}
+use Rattle.tables.proofs.Kit.{arith, add-zero, add-one, length, getD, take, drop, set, length-append, length-drop, length-set, take-append-drop}
+use Rattle.tables.proofs.Kit.{set-split, length-take-le, take-suc, take-all, append-snoc}
 use Rattle.tables.specs.Column.{blocks}
 use Rattle.tables.proofs.Columns.{blocks-fit, put-block}
-use Rattle.asking.specs.Text.{item, refusedWord, spaced, line, refusedLine}
-use Rattle.asking.specs.inner.Writing.{Wrote}
+use Rattle.asking.specs.{Text.{item, refusedWord, spaced, line, refusedLine}, inner.Writing.Wrote}
 use Rattle.asking.proofs.Decimal.{length-4}
 
 -- nothing is written

@@ -1,17 +1,8 @@
 -- The containment call's checks, from those of the pair, the fresh label and the room. Assumes nothing.
-use Prim.Native.Nat.{ℕ, zero, suc, _≤_}
-use mathlib.Core.Path.{_≡_, refl}
-use mathlib.Core.Logic.{inl, inr, ⊎-elim, _≢_}
-use native.Mathlib.Omega.{arith}
-use Rattle.tables.specs.Pattern.{Shape, shapeOf, ValidPattern}
-use Rattle.tables.specs.Refusal.{Passes, Refuses}
-use Rattle.tables.specs.declared.Pattern.{Pattern}
-use Rattle.tables.specs.declared.Refusal.{Refusal}
-use Rattle.tables.specs.declared.Refusal.the-variants.{NoLabel, Room}
-use Rattle.containment.specs.Equality.{pairChecks}
-use Rattle.containment.specs.Witness.{Fresh, witnessSize}
-use Rattle.containment.specs.Containment.{containmentChecks}
-use Rattle.containment.specs.inner.Results.{FreshOr0}
+use Rattle.tables.proofs.Kit.{ℕ, zero, suc, _≤_, _≡_, refl, inl, inr, ⊎-elim, _≢_, arith}
+use Rattle.tables.specs.{Pattern.{Shape, shapeOf, ValidPattern}, Refusal.{Passes, Refuses}, declared.Pattern.Pattern}
+use Rattle.tables.specs.{declared.Refusal.Refusal, declared.Refusal.the-variants.{NoLabel, Room}}
+use Rattle.containment.specs.{Equality.pairChecks, Witness.{Fresh, witnessSize}, Containment.containmentChecks, inner.Results.FreshOr0}
 
 -- a number other than 0 is the fresh label
 pub fresh-of : (A B : Shape) (l : ℕ) → l ≢ 0 → FreshOr0 A B l → Fresh A B l

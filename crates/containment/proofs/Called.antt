@@ -1,22 +1,11 @@
 -- What a caller has from the containment call's contract: contained means contained, and apart comes with a document that shows it. Assumes nothing.
-use Prim.Native.Nat.{ℕ}
-use mathlib.Core.Path.{_≡_, sym, ap, _∙_, subst}
-use mathlib.Core.List.{List}
-use native.Mathlib.Omega.{arith}
-use lib.ListN.{take, drop}
-use lib.Seq.{take-at}
-use Rattle.tables.specs.Document.{Document, ValidDocument, documentOf}
-use Rattle.tables.specs.Pattern.{shapeOf, ValidPattern}
-use Rattle.tables.specs.declared.NodeNo.{NodeNo}
-use Rattle.tables.specs.declared.Pattern.{Pattern}
+use Rattle.tables.proofs.Kit.{ℕ, _≡_, sym, ap, _∙_, subst, List, arith, take, drop, take-at}
+use Rattle.tables.specs.{Document.{Document, ValidDocument, documentOf}, Pattern.{shapeOf, ValidPattern}, declared.NodeNo.NodeNo, declared.Pattern.Pattern}
 use Rattle.placing.specs.Answer.{Answer}
-use Rattle.containment.specs.Witness.{witnessOf, answerNode}
-use Rattle.containment.specs.Containment.{AnswersContainment, DecidesContainment}
-use Rattle.containment.specs.declared.Containment.{Containment}
+use Rattle.containment.specs.{Witness.{witnessOf, answerNode}, Containment.{AnswersContainment, DecidesContainment}}
+use Rattle.containment.specs.{declared.Containment.Containment, declared.ContainmentAnswer.ContainmentAnswer}
 use Rattle.containment.specs.declared.Containment.the-variants as containment
-use Rattle.containment.specs.declared.ContainmentAnswer.{ContainmentAnswer}
-use Rattle.containment.proofs.Contained.{axes, witness-valid, witness-answers, witness-apart, contained-iff}
-use Rattle.containment.proofs.Written.{parents-length, labels-length}
+use Rattle.containment.proofs.{Contained.{axes, witness-valid, witness-answers, witness-apart, contained-iff}, Written.{parents-length, labels-length}}
 
 -- the first m entries of two lists, as a document
 abbrev pub frontOf : ℕ → List ℕ → List ℕ → Document

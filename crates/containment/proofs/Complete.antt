@@ -1,16 +1,9 @@
 -- If the answer node of A's witness is an answer of B there, then B maps into A. Assumes nothing.
-use Prim.Native.Nat.{ℕ, zero, suc, _+_, _<_}
-use mathlib.Core.Path.{_≡_, refl, sym, ap, _∙_, subst₂}
-use mathlib.Core.Logic.{_⊎_, inl, inr, ⊎-elim, _≢_}
-use native.Mathlib.Omega.{arith}
-use native.Mathlib.Decide.{decLt, ℕ-discrete}
-use Rattle.tables.specs.Tree.{Child, Below, child, under, Rows}
-use Rattle.tables.specs.Pattern.{Shape, rowsOf}
+use Rattle.tables.proofs.Kit.{ℕ, zero, suc, _+_, _<_, _≡_, refl, sym, ap, _∙_, subst₂, _⊎_, inl, inr, ⊎-elim, _≢_, arith, decLt, ℕ-discrete}
+use Rattle.tables.specs.{Tree.{Child, Below, child, under, Rows}, Pattern.{Shape, rowsOf}}
 use Rattle.tables.proofs.Trees.{Ordered, parent-lt}
-use Rattle.placing.specs.Placement.{Goes, Sends}
-use Rattle.placing.specs.Answer.{Begins}
-use Rattle.containment.specs.Mapping.{Maps}
-use Rattle.containment.specs.Witness.{ownNode}
+use Rattle.placing.specs.{Placement.{Goes, Sends}, Answer.Begins}
+use Rattle.containment.specs.{Mapping.Maps, Witness.ownNode}
 use Rattle.containment.proofs.Nodes.{Axes, Witness, For, own, new, Kind, kind-to, own-mono, own-inj, own-new, own-first}
 
 module _ {A : Shape} {φ : ℕ} {W : Rows} (ax : Axes A) (v : Ordered (A .tree)) (w : Witness A φ W) where

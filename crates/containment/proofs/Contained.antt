@@ -1,23 +1,13 @@
 -- Contained exactly where a mapping exists; where none does, A's witness is a document that obeys the rules, on which A answers the answer node and B does
 -- not. Assumes nothing.
-use Prim.Native.Nat.{ℕ, zero, suc, _≤_, _<_}
-use mathlib.Core.Path.{sym, ap, _∙_, subst}
-use mathlib.Core.Logic.{_↔_}
-use native.Mathlib.Omega.{arith}
-use lib.ListN.{getD}
-use Rattle.tables.specs.Tree.{IsLabel}
-use Rattle.tables.specs.Document.{nodesOf, nodeCount, NodeRule, ValidDocument}
-use Rattle.tables.specs.Pattern.{Shape, ValidShape}
+use Rattle.tables.proofs.Kit.{ℕ, zero, suc, _≤_, _<_, sym, ap, _∙_, subst, _↔_, arith, getD}
+use Rattle.tables.specs.{Tree.IsLabel, Document.{nodesOf, nodeCount, NodeRule, ValidDocument}, Pattern.{Shape, ValidShape}}
 use Rattle.tables.proofs.Rules.{shape-ordered}
 use Rattle.placing.specs.Answer.{Answer}
-use Rattle.containment.specs.Mapping.{Maps, Contained}
-use Rattle.containment.specs.Witness.{Fresh, witnessSize, witnessOf, answerNode}
+use Rattle.containment.specs.{Mapping.{Maps, Contained}, Witness.{Fresh, witnessSize, witnessOf, answerNode}}
 use Rattle.containment.proofs.Nodes.{Axes, Witness, For, own, new, kind-to, descendants-le}
-use Rattle.containment.proofs.Written.{witness-is, witness-equal, witness-root}
-use Rattle.containment.proofs.Shows.{witness-ordered, witness-answer}
-use Rattle.containment.proofs.Complete.{Unused, shown, complete}
-use Rattle.containment.proofs.Maps.{maps-sound}
-use Rattle.containment.proofs.FreshLabel.{freshLabel, fresh-label}
+use Rattle.containment.proofs.{Written.{witness-is, witness-equal, witness-root}, Shows.{witness-ordered, witness-answer}}
+use Rattle.containment.proofs.{Complete.{Unused, shown, complete}, Maps.maps-sound, FreshLabel.{freshLabel, fresh-label}}
 
 pub axes : {A : Shape} → ValidShape A → Axes A
 axes v s l = v .steps s l .axis

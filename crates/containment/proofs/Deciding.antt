@@ -1,16 +1,10 @@
 -- Mappings as a task: a test that runs tells whether B maps into A, and so whether A is contained in B; the smallest mapping runs, and is the only one.
 -- Assumes nothing.
-use Prim.Native.Nat.{ℕ, _<_}
-use mathlib.Core.Path.{_≡_, refl, ap, _∙_}
-use mathlib.Core.Bool.{Bool, _&&_}
-use lib.Dec.{eqb}
+use Rattle.tables.proofs.Kit.{ℕ, _<_, _≡_, refl, ap, _∙_, Bool, _&&_, eqb}
 use Rattle.tables.specs.Pattern.{Shape, rowsOf, ValidShape}
-use Rattle.tables.proofs.Rules.{shape-ordered}
-use Rattle.tables.proofs.Tests.{Tells, tells-eq, tells-and, tells-imp, tells-iff, imp, some, tells-some}
-use Rattle.placing.proofs.Fit.{Fit, Able, Whole, whole-able}
-use Rattle.placing.proofs.Probe.{Probe, Probes, canWhole, tells-whole}
-use Rattle.placing.proofs.Least.{greedy-least, best, best-greedy, best-fit, best-first, no-later-unique}
-use Rattle.placing.proofs.Sending.{takes, tells-takes, goes, tells-goes}
+use Rattle.tables.proofs.{Rules.shape-ordered, Tests.{Tells, tells-eq, tells-and, tells-imp, tells-iff, imp, some, tells-some}}
+use Rattle.placing.proofs.{Fit.{Fit, Able, Whole, whole-able}, Probe.{Probe, Probes, canWhole, tells-whole}}
+use Rattle.placing.proofs.{Least.{greedy-least, best, best-greedy, best-fit, best-first, no-later-unique}, Sending.{takes, tells-takes, goes, tells-goes}}
 use Rattle.mappings.proofs.StepFits.{mapTask}
 use Rattle.containment.specs.Mapping.{BeginsIn, Maps, LeastMap, Contained}
 use Rattle.containment.proofs.Contained.{contained-iff}

@@ -1,9 +1,5 @@
 -- However n labels are chosen, one of the first n + 1 is free. Assumes nothing.
-use Prim.Native.Nat.{ℕ, zero, suc, _≤_, _<_}
-use mathlib.Core.Path.{_≡_, sym, ap, _∙_}
-use mathlib.Core.Logic.{_≢_}
-use native.Mathlib.Omega.{arith}
-use native.Mathlib.Decide.{ℕ-discrete}
+use Rattle.tables.proofs.Kit.{ℕ, zero, suc, _≤_, _<_, _≡_, sym, ap, _∙_, _≢_, arith, ℕ-discrete}
 use Rattle.tables.proofs.Choice.{sel, sel-yes, sel-no, below-or-at}
 
 -- a label of 1 to n + 1 that none of n labels is

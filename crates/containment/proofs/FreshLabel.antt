@@ -1,14 +1,7 @@
 -- Two patterns that obey the rules leave a label of 1 to 129 free; the smallest is found by a test that runs, and no second fits. Assumes nothing.
-use Prim.Native.Nat.{ℕ, _+_, _-_, _≤_, _<_}
-use mathlib.Core.Path.{_≡_, ap, _∙_}
-use mathlib.Core.Logic.{_⊎_, inl, inr, ⊎-elim}
-use mathlib.Core.Bool.{Bool, true, false, not, _||_}
-use native.Mathlib.Omega.{arith}
-use native.Mathlib.Decide.{decLt}
-use lib.Dec.{T, eqb}
+use Rattle.tables.proofs.Kit.{ℕ, _+_, _-_, _≤_, _<_, _≡_, ap, _∙_, _⊎_, inl, inr, ⊎-elim, Bool, true, false, not, _||_, arith, decLt, T, eqb}
 use Rattle.tables.specs.Pattern.{Shape, ValidShape}
-use Rattle.tables.proofs.Choice.{sel, sel-yes, sel-no}
-use Rattle.tables.proofs.Tests.{Tells, tells-eq, tells-or, tells-iff, tells-not, some, tells-some}
+use Rattle.tables.proofs.{Choice.{sel, sel-yes, sel-no}, Tests.{Tells, tells-eq, tells-or, tells-iff, tells-not, some, tells-some}}
 use Rattle.placing.proofs.Least.{firstFrom, first-from, first-from-start}
 use Rattle.containment.specs.Witness.{Stands, Fresh}
 use Rattle.containment.proofs.Free.{Free, free}

@@ -1,27 +1,13 @@
 -- The smallest mapping, chosen step by step, and the array that holds it. Assumes nothing.
-use Prim.Native.Nat.{ℕ, zero, suc, _+_, _≤_, _<_}
-use mathlib.Core.Path.{_≡_, refl, sym, ap, _∙_, subst, subst₂}
-use mathlib.Core.List.{List, _∷_}
-use native.Mathlib.Omega.{arith}
-use native.Mathlib.Decide.{ℕ-discrete}
-use lib.ListN.{getD, set, replicate}
-use Rattle.tables.specs.Bits.{bit}
-use Rattle.tables.specs.Column.{blocks, stepNo, stepArray}
-use Rattle.tables.specs.Tree.{Child, child}
-use Rattle.tables.specs.Pattern.{Shape, rowsOf, ValidShape}
-use Rattle.tables.proofs.Choice.{upd, upd-same, upd-other}
-use Rattle.tables.proofs.Columns.{steps-next, steps-ext}
-use Rattle.tables.proofs.Rules.{shape-ordered}
-use Rattle.tables.proofs.Trees.{below-lt, below-here}
+use Rattle.tables.proofs.Kit.{ℕ, zero, suc, _+_, _≤_, _<_, _≡_, refl, sym, ap, _∙_, subst, subst₂, List, _∷_, arith, ℕ-discrete, getD, set, replicate}
+use Rattle.tables.specs.{Bits.bit, Column.{blocks, stepNo, stepArray}, Tree.{Child, child}, Pattern.{Shape, rowsOf, ValidShape}}
+use Rattle.tables.proofs.{Choice.{upd, upd-same, upd-other}, Columns.{steps-next, steps-ext}, Rules.shape-ordered, Trees.{below-lt, below-here}}
 use Rattle.placing.specs.Placement.{Goes}
-use Rattle.placing.proofs.Fit.{Able, able-ok, able-next}
-use Rattle.placing.proofs.Least.{greedy-least}
+use Rattle.placing.proofs.{Fit.{Able, able-ok, able-next}, Least.greedy-least}
 use Rattle.containment.specs.Mapping.{BeginsIn, LeastMap}
 use Rattle.mappings.specs.Fits.{FitsIn, FitTable, Picks, ImageAt}
-use Rattle.mappings.proofs.StepFits.{mapTask}
+use Rattle.mappings.proofs.{StepFits.{mapTask, fits-able, able-fits}, Images.{pick-found, pick-some}}
 use Rattle.containment.proofs.Deciding.{maps-fit, fit-maps}
-use Rattle.mappings.proofs.StepFits.{fits-able, able-fits}
-use Rattle.mappings.proofs.Images.{pick-found, pick-some}
 
 -- the array of step 0 alone
 pub mapping-one : (r : ℕ) → stepNo r ∷ replicate 63 (stepNo 0) ≡ stepArray (λ u. r) 1

@@ -1,6 +1,5 @@
 -- Mappings have an identity and compose, and a mapping of B into A shows that A is contained in B. Assumes nothing.
-use Prim.Native.Nat.{ℕ}
-use mathlib.Core.Path.{refl, ap, _∙_}
+use Rattle.tables.proofs.Kit.{ℕ, refl, ap, _∙_}
 use Rattle.tables.specs.Pattern.{Shape}
 use Rattle.placing.proofs.Compose.{compose, identity}
 use Rattle.containment.specs.Mapping.{Maps, Contained, Equal}

@@ -1,12 +1,6 @@
 -- Laws of the nodes that a witness writes, and what is known of the witness row by row. Assumes nothing.
-use Prim.Native.Nat.{ℕ, zero, suc, _+_, _≤_, _<_}
-use mathlib.Core.Path.{_≡_, sym, ap, _∙_}
-use mathlib.Core.Logic.{_⊎_, inl, inr, ⊎-elim}
-use native.Mathlib.Omega.{arith}
-use native.Mathlib.Nat.{eq-or-lt-of-le}
-use native.Mathlib.Decide.{decLt, ℕ-discrete}
-use Rattle.tables.specs.Tree.{Child, Rows}
-use Rattle.tables.specs.Pattern.{Shape}
+use Rattle.tables.proofs.Kit.{ℕ, zero, suc, _+_, _≤_, _<_, _≡_, sym, ap, _∙_, _⊎_, inl, inr, ⊎-elim, arith, eq-or-lt-of-le, decLt, ℕ-discrete}
+use Rattle.tables.specs.{Tree.{Child, Rows}, Pattern.Shape}
 use Rattle.containment.specs.Witness.{descendants, ownNode, witnessSize}
 
 -- every axis is 0 or 1

@@ -1,14 +1,8 @@
 -- A has its answer node for an answer in its own witness, and the witness obeys the rules for documents. Assumes nothing.
-use Prim.Native.Nat.{ℕ, zero, suc, _+_, _≤_, _<_}
-use mathlib.Core.Path.{_≡_, refl, sym, ap, _∙_, subst₂}
-use mathlib.Core.Logic.{_⊎_, inl, inr, ⊎-elim}
-use native.Mathlib.Omega.{arith}
-use native.Mathlib.Decide.{ℕ-discrete}
-use Rattle.tables.specs.Tree.{Child, Below, child, under, Rows}
-use Rattle.tables.specs.Pattern.{Shape}
+use Rattle.tables.proofs.Kit.{ℕ, zero, suc, _+_, _≤_, _<_, _≡_, refl, sym, ap, _∙_, subst₂, _⊎_, inl, inr, ⊎-elim, arith, ℕ-discrete}
+use Rattle.tables.specs.{Tree.{Child, Below, child, under, Rows}, Pattern.Shape}
 use Rattle.tables.proofs.Trees.{Ordered}
-use Rattle.placing.specs.Placement.{Goes, Sends, Reaches}
-use Rattle.placing.specs.Answer.{Begins}
+use Rattle.placing.specs.{Placement.{Goes, Sends, Reaches}, Answer.Begins}
 use Rattle.placing.proofs.Compose.{below-sends}
 use Rattle.containment.specs.Witness.{descendants, ownNode, answerNode}
 use Rattle.containment.proofs.Nodes.{Axes, descendants-mono, Witness, For, own, new, Kind, kind-to, own-first}

@@ -1,26 +1,14 @@
 -- No second answer fits the containment call, nor that on equality. Assumes nothing.
-use Prim.Native.Nat.{ℕ}
-use mathlib.Core.Path.{_≡_, refl, sym, ap, ap₂, _∙_}
-use mathlib.Core.List.{List, _++_}
-use lib.ListN.{length, drop}
-use Rattle.tables.specs.Pattern.{shapeOf}
-use Rattle.tables.specs.Refusal.{Passes, Refuses}
-use Rattle.tables.specs.declared.Pattern.{Pattern}
-use Rattle.tables.specs.declared.StepNo.{StepNo}
-use Rattle.tables.specs.declared.NodeNo.{NodeNo}
-use Rattle.tables.specs.declared.Refusal.{Refusal}
-use Rattle.tables.proofs.Columns.{steps-ext}
-use Rattle.tables.proofs.Refusals.{refuses-not-passes, refuses-unique}
-use Rattle.containment.specs.Witness.{witnessOf}
-use Rattle.containment.specs.Containment.{containmentChecks, Within, ApartBy, AnswersContainment, DecidesContainment}
-use Rattle.containment.specs.declared.Containment.{Containment}
+use Rattle.tables.proofs.Kit.{ℕ, _≡_, refl, sym, ap, ap₂, _∙_, List, _++_, length, drop}
+use Rattle.tables.specs.{Pattern.shapeOf, Refusal.{Passes, Refuses}, declared.Pattern.Pattern}
+use Rattle.tables.specs.{declared.StepNo.StepNo, declared.NodeNo.NodeNo, declared.Refusal.Refusal}
+use Rattle.tables.proofs.{Columns.steps-ext, Refusals.{refuses-not-passes, refuses-unique}}
+use Rattle.containment.specs.{Witness.witnessOf, Containment.{containmentChecks, Within, ApartBy, AnswersContainment, DecidesContainment}}
+use Rattle.containment.specs.{declared.Containment.Containment, declared.ContainmentAnswer.ContainmentAnswer}
+use Rattle.containment.specs.{Equality.{pairChecks, DecidesEquality}, declared.Equality.Equality}
 use Rattle.containment.specs.declared.Containment.the-variants as containment
-use Rattle.containment.specs.declared.ContainmentAnswer.{ContainmentAnswer}
-use Rattle.containment.specs.Equality.{pairChecks, DecidesEquality}
-use Rattle.containment.specs.declared.Equality.{Equality}
 use Rattle.containment.specs.declared.Equality.the-variants as equality
-use Rattle.containment.proofs.Deciding.{least-map-unique}
-use Rattle.containment.proofs.FreshLabel.{fresh-unique}
+use Rattle.containment.proofs.{Deciding.least-map-unique, FreshLabel.fresh-unique}
 
 within-unique : (A B : Pattern) (m n : List StepNo) → Within A B m → Within A B n → m ≡ n
 within-unique A B m n h k =

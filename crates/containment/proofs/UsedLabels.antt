@@ -1,13 +1,5 @@
 -- The table of the small labels that stand at the steps of a pattern. Assumes nothing.
-use Prim.Native.Nat.{ℕ, _<_}
-use mathlib.Core.Path.{_≡_, sym, subst}
-use mathlib.Core.Logic.{_⊎_, inr}
-use mathlib.Core.Bool.{Bool, true, false}
-use mathlib.Core.List.{List}
-use native.Mathlib.Decide.{ℕ-discrete}
-use lib.Dec.{T}
-use lib.ListN.{getD, set, replicate, getD-replicate}
-use lib.Seq.{getD-set-other}
+use Rattle.tables.proofs.Kit.{ℕ, _<_, _≡_, sym, subst, _⊎_, inr, Bool, true, false, List, ℕ-discrete, T, getD, set, replicate, getD-replicate, getD-set-other}
 use Rattle.tables.specs.Pattern.{Shape}
 use Rattle.containment.specs.Witness.{Stands}
 

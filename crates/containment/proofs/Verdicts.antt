@@ -1,25 +1,11 @@
 -- What the table of fits, the smallest mapping and the checks say of containment. Assumes nothing.
-use Prim.Native.Nat.{ℕ, _<_}
-use mathlib.Core.Path.{_≡_, refl, sym, subst}
-use mathlib.Core.Logic.{inl, inr, ⊎-elim}
-use mathlib.Core.List.{List}
-use native.Mathlib.Omega.{arith}
-use lib.ListN.{getD}
-use Rattle.tables.specs.Bits.{bit}
-use Rattle.tables.specs.Checks.{ChecksPattern}
-use Rattle.tables.specs.Pattern.{Shape, shapeOf, ValidShape, ValidPattern}
-use Rattle.tables.specs.Refusal.{Refuses}
+use Rattle.tables.proofs.Kit.{ℕ, _<_, _≡_, refl, sym, subst, inl, inr, ⊎-elim, List, arith, getD}
+use Rattle.tables.specs.{Bits.bit, Checks.ChecksPattern, Pattern.{Shape, shapeOf, ValidShape, ValidPattern}}
+use Rattle.tables.specs.{Refusal.Refuses, declared.Pattern.Pattern, declared.Refusal.Refusal, declared.StepNo.StepNo}
 use Rattle.tables.specs.declared.Checked.the-variants as checked
-use Rattle.tables.specs.declared.Pattern.{Pattern}
-use Rattle.tables.specs.declared.Refusal.{Refusal}
-use Rattle.tables.specs.declared.StepNo.{StepNo}
-use Rattle.tables.proofs.Rules.{shape-ordered}
-use Rattle.tables.proofs.Trees.{from-here, from-root, parent-lt}
-use Rattle.containment.specs.Mapping.{BeginsIn, Maps, Contained}
-use Rattle.containment.specs.Containment.{Within}
-use Rattle.containment.specs.Equality.{pairChecks}
+use Rattle.tables.proofs.{Rules.shape-ordered, Trees.{from-here, from-root, parent-lt}}
+use Rattle.containment.specs.{Mapping.{BeginsIn, Maps, Contained}, Containment.Within, Equality.pairChecks, inner.Results.Chosen}
 use Rattle.mappings.specs.Fits.{FitsIn, FitTable, Picks}
-use Rattle.containment.specs.inner.Results.{Chosen}
 use Rattle.containment.proofs.Contained.{contained-iff}
 use Rattle.mappings.proofs.Images.{pick-to, pick-none, pick-found, pick-below}
 

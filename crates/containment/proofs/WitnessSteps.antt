@@ -1,24 +1,10 @@
 -- The witness as the code writes it, one step after another. Assumes nothing.
-use Prim.Native.Nat.{ℕ, zero, suc, _+_, _-_, _≤_, _<_}
-use mathlib.Core.Path.{_≡_, refl, sym, ap, _∙_}
-use mathlib.Core.Logic.{_⊎_, inl, inr}
-use mathlib.Core.List.{List, [], _∷_, _++_, append-assoc}
-use native.Mathlib.Omega.{arith}
-use native.Mathlib.Numerals.{add-one}
-use borrow.Author.Count.{below-more}
-use lib.Seq.{getD-set-same, getD-set-other}
-use lib.ListN.{length, getD, drop, set, length-append, length-drop}
-use Rattle.tables.specs.Column.{blocks, nodeNo}
-use Rattle.tables.specs.Pattern.{Shape, ValidShape}
-use Rattle.tables.specs.declared.NodeNo.{NodeNo}
-use Rattle.tables.proofs.Columns.{put-next}
-use Rattle.tables.proofs.Rules.{shape-ordered}
-use Rattle.tables.proofs.Trees.{parent-lt}
-use Rattle.containment.specs.Witness.{descendants, ownNode, witnessSize, hook, parentsFor, labelsFor}
-use Rattle.containment.specs.inner.Results.{StepWrote}
-use Rattle.containment.proofs.Nodes.{descendants-le, descendants-mono}
-use Rattle.containment.proofs.Written.{parents-length, labels-length}
-use Rattle.containment.proofs.Contained.{axes}
+use Rattle.tables.proofs.Kit.{ℕ, zero, suc, _+_, _-_, _≤_, _<_, _≡_, refl, sym, ap, _∙_, _⊎_, inl, inr, List, [], _∷_, _++_, append-assoc}
+use Rattle.tables.proofs.Kit.{arith, add-one, below-more, getD-set-same, getD-set-other, length, getD, drop, set, length-append, length-drop}
+use Rattle.tables.specs.{Column.{blocks, nodeNo}, Pattern.{Shape, ValidShape}, declared.NodeNo.NodeNo}
+use Rattle.tables.proofs.{Columns.put-next, Rules.shape-ordered, Trees.parent-lt}
+use Rattle.containment.specs.{Witness.{descendants, ownNode, witnessSize, hook, parentsFor, labelsFor}, inner.Results.StepWrote}
+use Rattle.containment.proofs.{Nodes.{descendants-le, descendants-mono}, Written.{parents-length, labels-length}, Contained.axes}
 
 -- two entries more of a list that is written from the front
 put-two : (xs d : List ℕ) (m u v : ℕ) → length xs ≡ m → m + 1 < length d → set (set (xs ++ drop m d) m u) (m + 1) v ≡ (xs ++ (u ∷ v ∷ [])) ++ drop (m + 2) d

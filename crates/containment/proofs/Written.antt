@@ -1,14 +1,6 @@
 -- The witness as it is written, step by step, has the rows that the theory asks for. Assumes nothing.
-use Prim.Native.Nat.{ℕ, zero, suc, _+_, _≤_, _<_}
-use mathlib.Core.Path.{_≡_, refl, sym, ap, _∙_}
-use mathlib.Core.Logic.{_⊎_, inl, inr}
-use mathlib.Core.List.{List, [], _∷_}
-use native.Mathlib.Omega.{arith}
-use lib.ListN.{length, getD, length-append}
-use Rattle.tables.specs.Tree.{Child}
-use Rattle.tables.specs.Column.{blocks}
-use Rattle.tables.specs.Document.{nodesOf}
-use Rattle.tables.specs.Pattern.{Shape}
+use Rattle.tables.proofs.Kit.{ℕ, zero, suc, _+_, _≤_, _<_, _≡_, refl, sym, ap, _∙_, _⊎_, inl, inr, List, [], _∷_, arith, length, getD, length-append}
+use Rattle.tables.specs.{Tree.Child, Column.blocks, Document.nodesOf, Pattern.Shape}
 use Rattle.tables.proofs.Columns.{blocks-at}
 use Rattle.containment.specs.Witness.{descendants, ownNode, hook, byAxis, parentsFor, labelsFor, witnessOf}
 use Rattle.containment.proofs.Nodes.{Axes, Witness}

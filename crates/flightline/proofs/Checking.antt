@@ -1,16 +1,7 @@
 -- A test for each kind of fact, and that what passes holds. Assumes nothing.
-use Prim.Native.Nat.{ℕ, _*_, _≤_}
-use mathlib.Core.Path.{_≡_, refl, sym, subst, subst₂}
-use mathlib.Core.Bool.{Bool, true, _&&_, not}
-use mathlib.Core.List.{List, [], _∷_}
-use native.Mathlib.Omega.{arith}
-use lib.Dec.{T, ltb, eqb, eqb→eq, ltb→lt}
-use lib.ListN.{length}
-use Rattle.tables.specs.Column.{column}
-use Rattle.tables.specs.Document.{Document, nodeCount, ValidDocument}
-use Rattle.tables.specs.Pattern.{shapeOf, patternOf, ValidPattern}
-use Rattle.tables.specs.Refusal.{Passes}
-use Rattle.tables.specs.declared.Pattern.{Pattern}
+use Rattle.tables.proofs.Kit.{ℕ, _*_, _≤_, _≡_, refl, sym, subst, subst₂, Bool, true, _&&_, not, List, [], _∷_, arith, T, ltb, eqb, eqb→eq, ltb→lt, length}
+use Rattle.tables.specs.{Column.column, Document.{Document, nodeCount, ValidDocument}}
+use Rattle.tables.specs.{Pattern.{shapeOf, patternOf, ValidPattern}, Refusal.Passes, declared.Pattern.Pattern}
 use Rattle.tables.proofs.Rules.{isPattern, tells-pattern, samePattern, same-pattern, sameDocument, same-document}
 use Rattle.tables.proofs.Tests.{tells-self, tells-not, and-both, sameList, same-list}
 use Rattle.packets.specs.PatternPacket.{patternPacket, packetShape, patternChecks}
@@ -20,10 +11,8 @@ use Rattle.answers.specs.Working.{Working}
 use Rattle.answers.proofs.Tested.{begins, tells-begins, isIn, tells-in, isStartList, tells-start-list, answersOf, answers-of, workingOf, working-of}
 use Rattle.containment.specs.Witness.{Fresh, witnessOf, answerNode}
 use Rattle.containment.proofs.Contained.{witness-valid, witness-answers, witness-apart}
-use Rattle.containment.proofs.Deciding.{mapsInto, leastMapping, least-mapping, tells-maps, tells-contained}
-use Rattle.containment.proofs.FreshLabel.{freshLabel, fresh-label}
-use Rattle.rewriting.proofs.Deciding.{candidateOf, rewritable, tells-rewritable, not-rewritable}
-use Rattle.rewriting.proofs.Rewritten.{rewriting-exact}
+use Rattle.containment.proofs.{Deciding.{mapsInto, leastMapping, least-mapping, tells-maps, tells-contained}, FreshLabel.{freshLabel, fresh-label}}
+use Rattle.rewriting.proofs.{Deciding.{candidateOf, rewritable, tells-rewritable, not-rewritable}, Rewritten.rewriting-exact}
 use Rattle.flightline.specs.Fact.{Fact, answers, packet, working, contained, apart, equal, handed, started, nothing, Holds, AllHold}
 
 -- does the fact hold on d?

@@ -1,28 +1,18 @@
 -- Cases 1 to 11 of flight line seven hold, in the terms of the definitions: the table is proved by computation. Assumes nothing.
 use lib.Dec.{T}
-use Rattle.tables.specs.Column.{blocks, stepArray}
-use Rattle.tables.specs.Document.{ValidDocument}
-use Rattle.tables.specs.Pattern.{tableOf, patternOf}
-use Rattle.tables.proofs.TreeTests.{isChild, climbs, isBelow, isFrom, hangsRight}
-use Rattle.tables.proofs.Marks.{mask}
-use Rattle.tables.proofs.Rules.{isLabel, stepRight, isPattern, nodeRight, isDocument, tells-document, samePattern, sameDocument}
-use Rattle.tables.proofs.Tests.{every, some, sameList}
+use Rattle.tables.specs.{Column.{blocks, stepArray}, Document.ValidDocument, Pattern.{tableOf, patternOf}}
+use Rattle.tables.proofs.{TreeTests.{isChild, climbs, isBelow, isFrom, hangsRight}, Marks.mask, Rules.{isLabel, stepRight, isPattern}}
+use Rattle.tables.proofs.{Rules.{nodeRight, isDocument, tells-document, samePattern, sameDocument}, Tests.{every, some, sameList}}
 use Rattle.packets.specs.PatternPacket.{stepBytes, patternPacket, packetShape}
-use Rattle.placing.proofs.Least.{firstFrom, pick, chosen, best}
-use Rattle.placing.proofs.Listing.{passing}
-use Rattle.placing.proofs.Probe.{can, canSend, wholeTo, canWhole}
-use Rattle.placing.proofs.Sending.{labelFits, takes}
+use Rattle.placing.proofs.{Least.{firstFrom, pick, chosen, best}, Listing.passing, Probe.{can, canSend, wholeTo, canWhole}, Sending.{labelFits, takes}}
 use Rattle.answers.proofs.Tested.{begins, isIn, isStartList, answersOf, entriesOf, workingOf}
 use Rattle.containment.specs.Witness.{descendants, ownNode, hook, parentsFor, labelsFor, witnessOf}
-use Rattle.containment.proofs.Deciding.{mapsInto, leastMapping}
-use Rattle.containment.proofs.FreshLabel.{standsIn, isFree, freshLabel}
+use Rattle.containment.proofs.{Deciding.{mapsInto, leastMapping}, FreshLabel.{standsIn, isFree, freshLabel}}
 use Rattle.joining.specs.Join.{renumber, byPart, joinShape, joinOf}
 use Rattle.rewriting.specs.Candidate.{pathTo, mainPath, cutStep}
-use Rattle.rewriting.proofs.Cuts.{howMany, cutShape}
-use Rattle.rewriting.proofs.Deciding.{candidateOf, hasCandidate, joinEqual, rewritable}
-use Rattle.flightline.specs.Fact.{pattern, AllHold}
-use Rattle.flightline.specs.Table.{line, view, posed, controlled, topStrip, nestedStrips, framePosed, linePoses, lineStrips, stripPoses, twoFrames}
-use Rattle.flightline.specs.Table.{oneFrame, viewWitness, answerCases, containmentCases, rewritingCases}
+use Rattle.rewriting.proofs.{Cuts.{howMany, cutShape}, Deciding.{candidateOf, hasCandidate, joinEqual, rewritable}}
+use Rattle.flightline.specs.{Fact.{pattern, AllHold}, Table.{line, view, posed, controlled, topStrip, nestedStrips, framePosed, linePoses}}
+use Rattle.flightline.specs.Table.{lineStrips, stripPoses, twoFrames, oneFrame, viewWitness, answerCases, containmentCases, rewritingCases}
 use Rattle.flightline.proofs.Checking.{test, testAll, test-all}
 
 line-valid : ValidDocument line

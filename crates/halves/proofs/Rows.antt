@@ -1,11 +1,6 @@
 -- Bytes that are written over a list: one block after another, and rows of one width after a header. Assumes nothing.
-use Prim.Native.Nat.{ℕ, _+_, _*_, _≤_}
-use mathlib.Core.Path.{_≡_, refl, sym, ap, ap₂, _∙_}
-use mathlib.Core.List.{List, _++_, append-nil, append-assoc}
-use native.Mathlib.Nat.{mul-comm, mul-zero, mul-suc, add-zero, add-assoc}
-use native.Mathlib.Numerals.{add-one}
-use lib.ListN.{length, take, drop, length-append, take-append-drop}
-use lib.Seq.{length-take-le}
+use Rattle.tables.proofs.Kit.{ℕ, _+_, _*_, _≤_, _≡_, refl, sym, ap, ap₂, _∙_, List, _++_, append-nil, append-assoc}
+use Rattle.tables.proofs.Kit.{mul-comm, mul-zero, mul-suc, add-zero, add-assoc, add-one, length, take, drop, length-append, take-append-drop, length-take-le}
 use Rattle.tables.specs.Column.{blocks}
 use Rattle.tables.proofs.Columns.{blocks-length, put-block}
 

@@ -1,18 +1,11 @@
 -- Joining three patterns either way is accepted or not alike, and gives one table. Assumes nothing.
-use Prim.Native.Nat.{ℕ, _+_, _<_}
-use mathlib.Core.Path.{_≡_, refl, sym, ap, _∙_}
-use mathlib.Core.Logic.{_⊎_, ⊎-elim, _↔_}
-use native.Mathlib.Omega.{arith}
-use native.Mathlib.Nat.{eq-zero-or-pos}
-use Rattle.tables.specs.Tree.{Child}
-use Rattle.tables.specs.Pattern.{Shape}
-use Rattle.tables.specs.declared.Pattern.{Pattern}
+use Rattle.tables.proofs.Kit.{ℕ, _+_, _<_, _≡_, refl, sym, ap, _∙_, _⊎_, ⊎-elim, _↔_, arith, eq-zero-or-pos}
+use Rattle.tables.specs.{Tree.Child, Pattern.Shape, declared.Pattern.Pattern}
 use Rattle.tables.proofs.Rules.{Agree, pattern-of-agree}
 use Rattle.joining.specs.Join.{renumber, joinOf, Joinable}
 use Rattle.joining.proofs.Parts.{renumber-low, renumber-high, renumber-cases}
-use Rattle.joining.proofs.Joined.{Joined, Whence, view, tail, whence, renumber-small, renumber-late, late-renumber}
-use Rattle.joining.proofs.Joined.{view-child, tail-child, first-axis, first-label, output-label, output-small, Pair, pair-of, pair-joinable, pair-joined}
-use Rattle.joining.proofs.Order.{pair-valid, join-clean}
+use Rattle.joining.proofs.Joined.{Joined, Whence, view, tail, whence, renumber-small, renumber-late, late-renumber, view-child, tail-child, first-axis}
+use Rattle.joining.proofs.{Joined.{first-label, output-label, output-small, Pair, pair-of, pair-joinable, pair-joined}, Order.{pair-valid, join-clean}}
 
 -- a column of a join: the view's entries and the tail's
 record Column (U E : Shape) (e : ℕ) (ku ke kj : ℕ → ℕ) : Type 0 where

@@ -1,22 +1,12 @@
 -- What the call gives its callers: the join obeys the rules and has the answers of the compensation started at those of the view, and three patterns are joined
 -- either way alike. Assumes nothing.
-use Prim.Native.Nat.{ℕ}
-use mathlib.Core.Path.{_≡_, sym, ap, _∙_, subst}
-use mathlib.Core.Logic.{_↔_}
-use native.Mathlib.Omega.{arith}
-use Rattle.tables.specs.Document.{Document}
-use Rattle.tables.specs.Pattern.{shapeOf, zeroPattern, ValidPattern}
-use Rattle.tables.specs.Refusal.{Decided}
-use Rattle.tables.specs.declared.Pattern.{Pattern}
-use Rattle.tables.specs.declared.Checked.{Checked}
+use Rattle.tables.proofs.Kit.{ℕ, _≡_, sym, ap, _∙_, subst, _↔_, arith}
+use Rattle.tables.specs.{Document.Document, Pattern.{shapeOf, zeroPattern, ValidPattern}, Refusal.Decided, declared.Pattern.Pattern, declared.Checked.Checked}
 use Rattle.tables.specs.declared.Checked.the-variants as checked
 use Rattle.tables.proofs.Refusals.{refuses-not-passes}
 use Rattle.placing.specs.Answer.{Answer, Started}
-use Rattle.joining.specs.Join.{joinOf, joinChecks, Joinable, Joins}
-use Rattle.joining.specs.declared.JoinAnswer.{JoinAnswer}
-use Rattle.joining.proofs.Order.{join-valid}
-use Rattle.joining.proofs.Started.{join-answers}
-use Rattle.joining.proofs.Assoc.{join-assoc-accepted, join-assoc}
+use Rattle.joining.specs.{Join.{joinOf, joinChecks, Joinable, Joins}, declared.JoinAnswer.JoinAnswer}
+use Rattle.joining.proofs.{Order.join-valid, Started.join-answers, Assoc.{join-assoc-accepted, join-assoc}}
 
 -- the answer is right exactly where the pair can be joined
 pub called-accepts : (U E : Pattern) (r : JoinAnswer) → Joins U E r → (r .answer ≡ checked.Right) ↔ Joinable U E

@@ -1,14 +1,10 @@
 -- A join can be sent exactly where its view and its tail can, the tail's step 0 at the row of the view's output step. Assumes nothing.
-use Prim.Native.Nat.{ℕ, _+_, _<_}
-use mathlib.Core.Path.{_≡_, refl, sym, ap, _∙_, subst, subst₂}
-use native.Mathlib.Omega.{arith}
-use Rattle.tables.specs.Tree.{Child, Rows}
-use Rattle.tables.specs.Pattern.{Shape}
+use Rattle.tables.proofs.Kit.{ℕ, _+_, _<_, _≡_, refl, sym, ap, _∙_, subst, subst₂, arith}
+use Rattle.tables.specs.{Tree.{Child, Rows}, Pattern.Shape}
 use Rattle.tables.proofs.Trees.{Ordered, parent-lt}
 use Rattle.placing.specs.Placement.{Takes, Goes, Sends, Reaches}
 use Rattle.joining.specs.Join.{renumber}
-use Rattle.joining.proofs.Parts.{renumber-low, both, both-view, both-tail}
-use Rattle.joining.proofs.Joined.{Joined, Whence, view, tail, whence}
+use Rattle.joining.proofs.{Parts.{renumber-low, both, both-view, both-tail}, Joined.{Joined, Whence, view, tail, whence}}
 use Rattle.joining.proofs.Joined.{renumber-small, renumber-zero, late-renumber, view-child, tail-child, first-axis, tail-label-all}
 
 module _ {U E J : Shape} {e : ℕ} (j : Joined U E J e) (lo : U .output < U .tree .size) (same : U .label (U .output) ≡ E .label 0) (X : Rows) where

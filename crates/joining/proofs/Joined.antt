@@ -1,14 +1,8 @@
 -- What the join of a view U and a compensation E is, step by step. All that is proved of joins is proved of `Joined`, and the table that joining gives has it.
 -- Assumes nothing.
-use Prim.Native.Nat.{ℕ, suc, _+_, _-_, _≤_, _<_}
-use mathlib.Core.Path.{_≡_, refl, sym, ap, _∙_}
-use native.Mathlib.Omega.{arith}
-use native.Mathlib.Decide.{decLt, ℕ-discrete}
-use Rattle.tables.specs.Tree.{Child}
-use Rattle.tables.specs.Pattern.{Shape, shapeOf, ValidPattern}
-use Rattle.tables.specs.declared.Pattern.{Pattern}
-use Rattle.tables.proofs.Trees.{Ordered, parent-lt}
-use Rattle.tables.proofs.Rules.{Agree, pattern-of-shape, shape-ordered}
+use Rattle.tables.proofs.Kit.{ℕ, suc, _+_, _-_, _≤_, _<_, _≡_, refl, sym, ap, _∙_, arith, decLt, ℕ-discrete}
+use Rattle.tables.specs.{Tree.Child, Pattern.{Shape, shapeOf, ValidPattern}, declared.Pattern.Pattern}
+use Rattle.tables.proofs.{Trees.{Ordered, parent-lt}, Rules.{Agree, pattern-of-shape, shape-ordered}}
 use Rattle.joining.specs.Join.{renumber, added, joinShape, joinOf, Joinable}
 use Rattle.joining.proofs.Parts.{renumber-low, renumber-high, renumber-cases, part-front, part-middle, part-rest, both, both-view, both-late}
 

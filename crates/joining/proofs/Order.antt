@@ -1,18 +1,11 @@
 -- A join of two valid patterns that is not too large is a valid pattern, and its table is as tables are handed out. Assumes nothing.
-use Prim.Native.Nat.{ℕ, zero, suc, _+_, _≤_, _<_}
-use mathlib.Core.Path.{_≡_, refl, sym, ap, _∙_, subst, subst₂}
-use mathlib.Core.Logic.{_⊎_, inl, inr, ⊎-elim}
-use native.Mathlib.Omega.{arith}
-use native.Mathlib.Decide.{decLt, ℕ-discrete}
+use Rattle.tables.proofs.Kit.{ℕ, zero, suc, _+_, _≤_, _<_, _≡_, refl, sym, ap, _∙_, subst, subst₂, _⊎_, inl, inr, ⊎-elim, arith, decLt, ℕ-discrete}
 use Rattle.tables.specs.Tree.{Child, Below, child, under, From, Hangs, IsLabel}
-use Rattle.tables.specs.Pattern.{Shape, shapeOf, ValidShape, ValidPattern, Clean}
-use Rattle.tables.specs.declared.Pattern.{Pattern}
-use Rattle.tables.proofs.Trees.{Ordered, from-trans, from-root}
-use Rattle.tables.proofs.Rules.{shape-ordered, pattern-of-clean}
+use Rattle.tables.specs.{Pattern.{Shape, shapeOf, ValidShape, ValidPattern, Clean}, declared.Pattern.Pattern}
+use Rattle.tables.proofs.{Trees.{Ordered, from-trans, from-root}, Rules.{shape-ordered, pattern-of-clean}}
 use Rattle.joining.specs.Join.{renumber, joinShape, joinOf, Joinable}
 use Rattle.joining.proofs.Parts.{renumber-low, renumber-high}
-use Rattle.joining.proofs.Joined.{Joined, Whence, view, tail, whence, renumber-zero}
-use Rattle.joining.proofs.Joined.{view-child, tail-child, output-small, Pair, pair-of, pair-joined}
+use Rattle.joining.proofs.Joined.{Joined, Whence, view, tail, whence, renumber-zero, view-child, tail-child, output-small, Pair, pair-of, pair-joined}
 
 module _ {U E J : Shape} {e : ℕ} (j : Joined U E J e) (lo : U .output < U .tree .size) where
   -- what is below in the view is below in the join

@@ -1,9 +1,5 @@
 -- The step numbers of a join: the laws of the view's new numbers, of the three parts, and of a function put together from two. Assumes nothing.
-use Prim.Native.Nat.{ℕ, _+_, _-_, _≤_, _<_}
-use mathlib.Core.Path.{_≡_, sym, ap, _∙_}
-use native.Mathlib.Omega.{arith}
-use native.Mathlib.Decide.{decLt, ℕ-discrete}
-use borrow.Author.Tests.{lt-ltb, le-ltb}
+use Rattle.tables.proofs.Kit.{ℕ, _+_, _-_, _≤_, _<_, _≡_, sym, ap, _∙_, arith, decLt, ℕ-discrete, lt-ltb, le-ltb}
 use Rattle.joining.specs.Join.{renumber, byPart}
 
 -- a step up to the output step keeps its number

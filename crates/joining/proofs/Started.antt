@@ -1,15 +1,10 @@
 -- The answers of a join are the answers of the compensation, started at the answers of the view. Assumes nothing.
-use Prim.Native.Nat.{ℕ}
-use mathlib.Core.Path.{_≡_, refl, sym, subst}
-use mathlib.Core.Logic.{_↔_}
-use Rattle.tables.specs.Document.{Document, nodesOf}
-use Rattle.tables.specs.Pattern.{shapeOf}
-use Rattle.tables.specs.declared.Pattern.{Pattern}
+use Rattle.tables.proofs.Kit.{ℕ, _≡_, refl, sym, subst, _↔_}
+use Rattle.tables.specs.{Document.{Document, nodesOf}, Pattern.shapeOf, declared.Pattern.Pattern}
 use Rattle.tables.proofs.Rules.{shape-ordered}
 use Rattle.placing.specs.Answer.{Answer, Started}
 use Rattle.joining.specs.Join.{joinOf, Joinable}
-use Rattle.joining.proofs.Joined.{Pair, pair-of, pair-joined}
-use Rattle.joining.proofs.Glue.{join-split, join-glue}
+use Rattle.joining.proofs.{Joined.{Pair, pair-of, pair-joined}, Glue.{join-split, join-glue}}
 
 -- where step 0 may go, by its axis
 abbrev FirstNode : ℕ → ℕ → Type 0

@@ -1,13 +1,9 @@
 -- Joining gives one answer: no second one fits. Assumes nothing.
 use mathlib.Core.Path.{_≡_, sym, ap₂, _∙_}
-use Rattle.tables.specs.Pattern.{zeroPattern}
-use Rattle.tables.specs.Refusal.{Decided}
-use Rattle.tables.specs.declared.Pattern.{Pattern}
-use Rattle.tables.specs.declared.Checked.{Checked}
+use Rattle.tables.specs.{Pattern.zeroPattern, Refusal.Decided, declared.Pattern.Pattern, declared.Checked.Checked}
 use Rattle.tables.specs.declared.Checked.the-variants as checked
 use Rattle.tables.proofs.Refusals.{decided-unique}
-use Rattle.joining.specs.Join.{joinOf, joinChecks, Joins}
-use Rattle.joining.specs.declared.JoinAnswer.{JoinAnswer}
+use Rattle.joining.specs.{Join.{joinOf, joinChecks, Joins}, declared.JoinAnswer.JoinAnswer}
 
 -- the pattern beside an answer is settled by the answer
 beside : (U E : Pattern) (a : Checked) (p q : Pattern)

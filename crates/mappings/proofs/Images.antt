@@ -1,17 +1,7 @@
 -- The search for the smallest step of A that may take a step of B. Assumes nothing.
-use Prim.Native.Nat.{ℕ, zero, suc, _+_, _≤_, _<_}
-use mathlib.Core.Path.{_≡_, refl, subst}
-use mathlib.Core.Logic.{inr, ⊎-elim}
-use mathlib.Core.List.{List}
-use native.Mathlib.Omega.{arith}
-use native.Mathlib.Decide.{decLt, ℕ-discrete}
-use lib.ListN.{getD}
-use Rattle.tables.specs.Bits.{bit}
-use Rattle.tables.specs.Tree.{Below, child}
-use Rattle.tables.specs.Pattern.{Shape, rowsOf, ValidShape}
-use Rattle.tables.proofs.Rules.{shape-ordered}
-use Rattle.tables.proofs.Trees.{below-lt, below-up, below-here}
-use Rattle.tables.proofs.Depth.{run}
+use Rattle.tables.proofs.Kit.{ℕ, zero, suc, _+_, _≤_, _<_, _≡_, refl, subst, inr, ⊎-elim, List, arith, decLt, ℕ-discrete, getD}
+use Rattle.tables.specs.{Bits.bit, Tree.{Below, child}, Pattern.{Shape, rowsOf, ValidShape}}
+use Rattle.tables.proofs.{Rules.shape-ordered, Trees.{below-lt, below-up, below-here}, Depth.run}
 use Rattle.placing.specs.Placement.{Goes}
 use Rattle.mappings.specs.Fits.{Picks, picked, nothing, ImageAt}
 

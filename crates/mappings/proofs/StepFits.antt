@@ -1,24 +1,11 @@
 -- Which steps of B fit at each step of A: the upward pass over rows with A's steps as rows, in two lists. Assumes nothing.
-use Prim.Native.Nat.{ℕ, suc, _^_, _<_}
-use mathlib.Core.Path.{_≡_, refl, sym, ap, _∙_, subst}
-use mathlib.Core.Logic.{_↔_}
-use mathlib.Core.Bool.{Bool, true, false}
-use mathlib.Core.List.{List}
-use native.Mathlib.Omega.{arith}
-use native.Mathlib.Decide.{ℕ-discrete}
-use lib.Bits.{bitOr}
-use lib.Dec.{T}
-use lib.ListN.{length, getD, set, length-set}
-use lib.Seq.{getD-set-same, getD-set-other}
-use Rattle.tables.specs.Bits.{Marks}
-use Rattle.tables.specs.Tree.{From}
-use Rattle.tables.specs.Pattern.{Shape, rowsOf, ValidShape}
-use Rattle.tables.proofs.Marks.{marks-to, marks-one, marks-without}
-use Rattle.tables.proofs.Rules.{shape-ordered}
+use Rattle.tables.proofs.Kit.{ℕ, suc, _^_, _<_, _≡_, refl, sym, ap, _∙_, subst, _↔_, Bool, true, false, List, arith}
+use Rattle.tables.proofs.Kit.{ℕ-discrete, bitOr, T, length, getD, set, length-set, getD-set-same, getD-set-other}
+use Rattle.tables.specs.{Bits.Marks, Tree.From, Pattern.{Shape, rowsOf, ValidShape}}
+use Rattle.tables.proofs.{Marks.{marks-to, marks-one, marks-without}, Rules.shape-ordered}
 use Rattle.placing.specs.Placement.{LabelFits, Takes, Goes}
 use Rattle.placing.proofs.Fit.{Task, Able, fit-able, able-fit}
-use Rattle.plan.specs.Steps.{without, FitsBy}
-use Rattle.plan.specs.Rising.{entries, Turned}
+use Rattle.plan.specs.{Steps.{without, FitsBy}, Rising.{entries, Turned}}
 use Rattle.plan.proofs.Rising.{Risen, risen-fits}
 use Rattle.mappings.specs.Fits.{RightIn, FitsIn, FitTable}
 

@@ -1,11 +1,6 @@
 -- What the loops over a start list keep: the list is right as far as it was read, and its nodes are marked. Assumes nothing.
-use Prim.Native.Nat.{ℕ, zero, suc, _+_, _*_, _≤_, _<_}
-use mathlib.Core.Path.{_≡_, refl, sym, ap, _∙_}
-use mathlib.Core.List.{List}
-use native.Mathlib.Omega.{arith}
-use native.Mathlib.Decide.{ℕ-discrete}
-use lib.ListN.{length, getD, set, length-set}
-use lib.Seq.{getD-set-same, getD-set-other}
+use Rattle.tables.proofs.Kit.{ℕ, zero, suc, _+_, _*_, _≤_, _<_, _≡_, refl, sym, ap, _∙_, List, arith}
+use Rattle.tables.proofs.Kit.{ℕ-discrete, length, getD, set, length-set, getD-set-same, getD-set-other}
 use Rattle.tables.proofs.Choice.{below-or-at}
 use Rattle.placing.specs.Answer.{In, Ascending}
 use Rattle.marking.specs.Entries.{Marked}

@@ -1,12 +1,7 @@
 -- The lists that the passes' stores leave, entry by entry. Assumes nothing.
-use Prim.Native.Nat.{ℕ, _+_, _*_, _-_, _≤_, _<_}
-use mathlib.Core.Path.{_≡_, ap, _∙_}
-use mathlib.Core.Logic.{_≢_}
-use mathlib.Core.List.{List, _++_}
-use native.Mathlib.Omega.{arith}
-use lib.Bits.{bitOr}
-use lib.ListN.{length, getD, set, drop, replicate, length-set, length-append, length-drop, length-replicate, getD-replicate, List·getD-append}
-use lib.Seq.{getD-set-same, getD-set-other, getD-append-add, getD-drop}
+use Rattle.tables.proofs.Kit.{ℕ, _+_, _*_, _-_, _≤_, _<_, _≡_, ap, _∙_, _≢_, List, _++_, arith, bitOr}
+use Rattle.tables.proofs.Kit.{length, getD, set, drop, replicate, length-set, length-append, length-drop, length-replicate, getD-replicate, List·getD-append}
+use Rattle.tables.proofs.Kit.{getD-set-same, getD-set-other, getD-append-add, getD-drop}
 use Rattle.marking.specs.Entries.{HandedUp}
 
 -- a node's two entries stored

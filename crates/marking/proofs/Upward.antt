@@ -1,20 +1,10 @@
 -- Which steps fit at each node: the upward pass over rows with the nodes as rows, and both numbers of a node in one list. Assumes nothing.
-use Prim.Native.Nat.{ℕ, suc, _+_, _*_, _≤_, _<_}
-use mathlib.Core.Path.{_≡_, refl, sym, ap, _∙_, subst}
-use mathlib.Core.Logic.{_↔_, ⊎-elim}
-use mathlib.Core.List.{List}
-use native.Mathlib.Omega.{arith}
-use native.Mathlib.Nat.{eq-or-lt-of-le}
-use lib.ListN.{length, getD, set, length-set}
-use lib.Seq.{getD-set-same, getD-set-other}
-use Rattle.tables.specs.Bits.{Marks}
-use Rattle.tables.specs.Tree.{Child}
-use Rattle.tables.specs.Document.{Document, nodeCount, nodesOf, ValidDocument}
-use Rattle.tables.specs.Pattern.{Shape, ValidShape}
+use Rattle.tables.proofs.Kit.{ℕ, suc, _+_, _*_, _≤_, _<_, _≡_, refl, sym, ap, _∙_, subst, _↔_, ⊎-elim, List}
+use Rattle.tables.proofs.Kit.{arith, eq-or-lt-of-le, length, getD, set, length-set, getD-set-same, getD-set-other}
+use Rattle.tables.specs.{Bits.Marks, Tree.Child, Document.{Document, nodeCount, nodesOf, ValidDocument}, Pattern.{Shape, ValidShape}}
 use Rattle.tables.proofs.Rules.{document-ordered, shape-ordered}
 use Rattle.placing.specs.Placement.{LabelFits, ReachesFrom}
-use Rattle.placing.proofs.Fit.{Able}
-use Rattle.placing.proofs.Sending.{task, reaches-able}
+use Rattle.placing.proofs.{Fit.Able, Sending.{task, reaches-able}}
 use Rattle.plan.specs.Steps.{FitsBy}
 use Rattle.plan.proofs.Rising.{Risen, risen-start, risen-turn, risen-fits, along}
 use Rattle.marking.specs.Entries.{first, second, HandedUp, Fitted}

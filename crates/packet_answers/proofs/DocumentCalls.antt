@@ -1,28 +1,15 @@
 -- The calls on packets of documents, from the contracts of the calls that they make. Assumes nothing.
-use Prim.Native.Nat.{ℕ, _*_, _/_, _%_, _≤_, _<_}
-use mathlib.Core.Path.{_≡_, ap, _∙_, subst}
-use mathlib.Core.Logic.{⊎-elim}
-use mathlib.Core.List.{List, [], _∷_, _++_}
-use native.Mathlib.Omega.{arith}
-use lib.ListN.{length, getD, take, drop, replicate, length-replicate, List·getD-append}
-use Rattle.tables.specs.Document.{documentOf}
-use Rattle.tables.specs.Column.{blocks}
-use Rattle.tables.specs.Pattern.{shapeOf}
-use Rattle.tables.specs.Refusal.{Check, Passes}
-use Rattle.tables.specs.declared.Refusal.{Refusal}
-use Rattle.tables.specs.declared.Pattern.{Pattern}
-use Rattle.tables.specs.declared.Counted.{Counted}
+use Rattle.tables.proofs.Kit.{ℕ, _*_, _/_, _%_, _≤_, _<_, _≡_, ap, _∙_, subst, ⊎-elim, List, [], _∷_, _++_}
+use Rattle.tables.proofs.Kit.{arith, length, getD, take, drop, replicate, length-replicate, List·getD-append}
+use Rattle.tables.specs.{Document.documentOf, Column.blocks, Pattern.shapeOf, Refusal.{Check, Passes}}
+use Rattle.tables.specs.{declared.Refusal.Refusal, declared.Pattern.Pattern, declared.Counted.Counted}
 use Rattle.tables.specs.declared.Counted.the-variants as counted
-use Rattle.tables.proofs.Columns.{blocks-ext}
-use Rattle.tables.proofs.Outcomes.{refuses-front, passes-front, passes-rest}
+use Rattle.tables.proofs.{Columns.blocks-ext, Outcomes.{refuses-front, passes-front, passes-rest}}
 use Rattle.halves.specs.Bytes.{halfBytes}
-use Rattle.packets.specs.PatternPacket.{packetPattern, patternChecks}
-use Rattle.packets.specs.DocumentPacket.{packetDocument, documentRules}
+use Rattle.packets.specs.{PatternPacket.{packetPattern, patternChecks}, DocumentPacket.{packetDocument, documentRules}, inner.Putting.Puts}
 use Rattle.placing.specs.Answer.{Begins}
 use Rattle.answers.specs.Answers.{Found, HasRoom, FindsAnswers}
-use Rattle.packet_answers.specs.Documents.{AnswersPut, nodesRoom, AnswersPackets}
-use Rattle.packet_answers.specs.inner.Reading.{BothRead, ReadsBoth}
-use Rattle.packets.specs.inner.Putting.{Puts}
+use Rattle.packet_answers.specs.{Documents.{AnswersPut, nodesRoom, AnswersPackets}, inner.Reading.{BothRead, ReadsBoth}}
 use Rattle.placing.proofs.Listing.{answers-few}
 use Rattle.packets.proofs.Putting.{puts-rest}
 use Rattle.packet_answers.proofs.ReadingCalls.{both-document, both-nodes, both-few, pattern-valid, both-passes, both-bad}

@@ -1,28 +1,13 @@
 -- Reading a document's packet and a pattern's, from the contracts of the calls that do it, and what is known of the document afterwards. Assumes nothing.
-use Prim.Native.Nat.{ℕ, _≤_}
-use mathlib.Core.Path.{_≡_, sym, ap, _∙_, subst}
-use mathlib.Core.Logic.{inl, inr, ⊎-elim}
-use mathlib.Core.List.{List, _++_}
-use native.Mathlib.Omega.{arith}
-use lib.ListN.{length, take, drop}
-use Rattle.tables.specs.Checks.{documentRight}
-use Rattle.tables.specs.Document.{nodeCount, ValidDocument, documentOf}
-use Rattle.tables.specs.Pattern.{ValidPattern}
-use Rattle.tables.specs.Refusal.{number, Check, Passes, Refuses}
-use Rattle.tables.specs.declared.Refusal.{Refusal}
-use Rattle.tables.specs.declared.Pattern.{Pattern}
+use Rattle.tables.proofs.Kit.{ℕ, _≤_, _≡_, sym, ap, _∙_, subst, inl, inr, ⊎-elim, List, _++_, arith, length, take, drop}
+use Rattle.tables.specs.{Checks.documentRight, Document.{nodeCount, ValidDocument, documentOf}, Pattern.ValidPattern}
+use Rattle.tables.specs.{Refusal.{number, Check, Passes, Refuses}, declared.Refusal.Refusal, declared.Pattern.Pattern, declared.Counted.Counted}
 use Rattle.tables.specs.declared.Checked.the-variants as checked
-use Rattle.tables.specs.declared.Counted.{Counted}
 use Rattle.tables.specs.declared.Counted.the-variants as counted
-use Rattle.tables.proofs.Columns.{column-length}
-use Rattle.tables.proofs.Outcomes.{refuses-front, refuses-rest, passes-both, passes-front}
-use Rattle.packets.specs.Header.{headChecks}
-use Rattle.packets.specs.PatternPacket.{packetPattern, patternChecks, ReadsPattern}
-use Rattle.packets.specs.DocumentPacket.{nodesIn, packetDocument, documentRules, listsCheck, ReadsNodes}
-use Rattle.packets.specs.declared.PatternRead.{PatternRead}
-use Rattle.packets.proofs.Reading.{document-fronts, nodes-refused}
-use Rattle.packets.proofs.Views.{head-of, read-of, pattern-told}
-use Rattle.packets.proofs.Views.{nodes-few as few}
+use Rattle.tables.proofs.{Columns.column-length, Outcomes.{refuses-front, refuses-rest, passes-both, passes-front}}
+use Rattle.packets.specs.{Header.headChecks, PatternPacket.{packetPattern, patternChecks, ReadsPattern}}
+use Rattle.packets.specs.{DocumentPacket.{nodesIn, packetDocument, documentRules, listsCheck, ReadsNodes}, declared.PatternRead.PatternRead}
+use Rattle.packets.proofs.{Reading.{document-fronts, nodes-refused}, Views.{head-of, read-of, pattern-told, nodes-few as few}}
 use Rattle.packet_answers.specs.inner.Reading.{AfterRules, BothRead, ReadsBoth}
 
 -- the header holds and a later check refuses by r: the refusal is that of the document, where it breaks the rules, else r

@@ -1,30 +1,15 @@
 -- The started form on packets, from the contracts of the calls that it makes. Assumes nothing.
-use Prim.Native.Nat.{ℕ, _+_, _*_, _/_, _%_, _≤_, _<_}
-use mathlib.Core.Path.{_≡_, refl, ap, _∙_, subst}
-use mathlib.Core.Logic.{_⊎_, inl, ⊎-elim}
-use mathlib.Core.List.{List, _++_}
-use native.Mathlib.Omega.{arith}
-use lib.ListN.{length, take, drop, replicate}
-use lib.Seq.{take-at}
-use Rattle.tables.specs.Column.{blocks, column}
-use Rattle.tables.specs.Document.{nodeCount, documentOf}
-use Rattle.tables.specs.Pattern.{shapeOf}
-use Rattle.tables.specs.Refusal.{Check}
-use Rattle.tables.specs.declared.Refusal.{Refusal}
-use Rattle.tables.specs.declared.Refusal.the-variants.{Start}
-use Rattle.tables.specs.declared.Pattern.{Pattern}
-use Rattle.tables.specs.declared.Counted.{Counted}
+use Rattle.tables.proofs.Kit.{ℕ, _+_, _*_, _/_, _%_, _≤_, _<_, _≡_, refl, ap, _∙_, subst}
+use Rattle.tables.proofs.Kit.{_⊎_, inl, ⊎-elim, List, _++_, arith, length, take, drop, replicate, take-at}
+use Rattle.tables.specs.{Column.{blocks, column}, Document.{nodeCount, documentOf}, Pattern.shapeOf, Refusal.Check}
+use Rattle.tables.specs.{declared.Refusal.Refusal, declared.Refusal.the-variants.Start, declared.Pattern.Pattern, declared.Counted.Counted}
 use Rattle.tables.specs.declared.Counted.the-variants as counted
-use Rattle.tables.proofs.Columns.{column-length, column-ext}
-use Rattle.tables.proofs.Outcomes.{refuses-front, refuses-rest, passes-both}
+use Rattle.tables.proofs.{Columns.{column-length, column-ext}, Outcomes.{refuses-front, refuses-rest, passes-both}}
 use Rattle.halves.specs.Bytes.{half, halfBytes, unpacked}
-use Rattle.packets.specs.PatternPacket.{packetPattern, patternChecks}
-use Rattle.packets.specs.DocumentPacket.{packetDocument, documentRules}
+use Rattle.packets.specs.{PatternPacket.{packetPattern, patternChecks}, DocumentPacket.{packetDocument, documentRules}, inner.Putting.Puts}
 use Rattle.placing.specs.Answer.{In, StartList}
 use Rattle.answers.specs.Answers.{FindsStarted}
-use Rattle.packet_answers.specs.Documents.{AnswersPut, nodesRoom, startCheck, StartsPackets}
-use Rattle.packet_answers.specs.inner.Reading.{AfterRules, BothRead, ReadsBoth}
-use Rattle.packets.specs.inner.Putting.{Puts}
+use Rattle.packet_answers.specs.{Documents.{AnswersPut, nodesRoom, startCheck, StartsPackets}, inner.Reading.{AfterRules, BothRead, ReadsBoth}}
 use Rattle.placing.proofs.Listing.{ascending-few}
 use Rattle.packets.proofs.Putting.{puts-rest}
 use Rattle.packet_answers.proofs.ReadingCalls.{after-rules, both-document, both-nodes, pattern-valid, both-passes, both-bad}

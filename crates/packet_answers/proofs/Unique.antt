@@ -1,14 +1,8 @@
 -- No second answer and no second content of the room fits a call on a document's packet. Assumes nothing.
-use Prim.Native.Nat.{ℕ, _*_}
-use mathlib.Core.Path.{_≡_, sym, ap, ap₂, _∙_}
-use mathlib.Core.List.{List, _++_}
-use lib.ListN.{length, drop}
-use Rattle.tables.specs.Document.{Document}
-use Rattle.tables.specs.Pattern.{Shape, shapeOf}
-use Rattle.tables.specs.declared.Counted.{Counted}
+use Rattle.tables.proofs.Kit.{ℕ, _*_, _≡_, sym, ap, ap₂, _∙_, List, _++_, length, drop}
+use Rattle.tables.specs.{Document.Document, Pattern.{Shape, shapeOf}, declared.Counted.Counted}
 use Rattle.halves.specs.Bytes.{packed, unpacked}
-use Rattle.packets.specs.PatternPacket.{packetPattern}
-use Rattle.packets.specs.DocumentPacket.{packetDocument}
+use Rattle.packets.specs.{PatternPacket.packetPattern, DocumentPacket.packetDocument}
 use Rattle.packets.proofs.Putting.{One, one-room}
 use Rattle.placing.specs.Answer.{Begins, Started, In}
 use Rattle.placing.proofs.Listing.{lists-unique}

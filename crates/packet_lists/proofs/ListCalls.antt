@@ -1,17 +1,10 @@
 -- The calls on lists, from the contracts of the calls that they make. Assumes nothing.
-use Prim.Native.Nat.{ℕ, zero, suc, _≤_, _<_}
-use mathlib.Core.Path.{_≡_, refl, subst}
-use mathlib.Core.List.{List}
-use lib.ListN.{length, getD}
-use Rattle.tables.specs.Document.{Document, nodeCount}
-use Rattle.tables.specs.Pattern.{Shape, shapeOf}
-use Rattle.tables.specs.declared.Refusal.{Refusal}
+use Rattle.tables.proofs.Kit.{ℕ, zero, suc, _≤_, _<_, _≡_, refl, subst, List, length, getD}
+use Rattle.tables.specs.{Document.{Document, nodeCount}, Pattern.{Shape, shapeOf}, declared.Refusal.Refusal, declared.Counted.Counted}
 use Rattle.tables.specs.declared.Checked.the-variants as checked
-use Rattle.tables.specs.declared.Counted.{Counted}
 use Rattle.tables.specs.declared.Counted.the-variants as counted
 use Rattle.tables.proofs.Outcomes.{refuses-front, passes-front, passes-rest, counted-rest}
-use Rattle.packets.specs.PatternPacket.{packetPattern, patternChecks, ReadsPattern}
-use Rattle.packets.specs.declared.PatternRead.{PatternRead}
+use Rattle.packets.specs.{PatternPacket.{packetPattern, patternChecks, ReadsPattern}, declared.PatternRead.PatternRead}
 use Rattle.packets.proofs.Views.{read-document-of, nodes-few, pattern-told}
 use Rattle.placing.specs.Answer.{Begins, Started, In, Ascending, Lists}
 use Rattle.answers.specs.Answers.{Found, answerChecks, startedChecks, FindsAnswers, FindsStarted}

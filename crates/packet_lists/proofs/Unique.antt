@@ -1,11 +1,6 @@
 -- No second answer and no second content of the lists fits a call on lists. Assumes nothing.
-use Prim.Native.Nat.{ℕ}
-use mathlib.Core.Path.{_≡_}
-use mathlib.Core.List.{List, _++_}
-use lib.ListN.{length}
-use Rattle.tables.specs.Document.{Document}
-use Rattle.tables.specs.Pattern.{shapeOf}
-use Rattle.tables.specs.declared.Counted.{Counted}
+use Rattle.tables.proofs.Kit.{ℕ, _≡_, List, _++_, length}
+use Rattle.tables.specs.{Document.Document, Pattern.shapeOf, declared.Counted.Counted}
 use Rattle.packets.specs.PatternPacket.{packetPattern, patternChecks}
 use Rattle.packets.proofs.DocumentTrip.{reads-document-unique}
 use Rattle.placing.specs.Answer.{Begins, In}

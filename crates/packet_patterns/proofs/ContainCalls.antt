@@ -1,38 +1,19 @@
 -- Containment on packets, from the contracts of the calls that it makes. Assumes nothing.
-use Prim.Native.Nat.{ℕ, zero, suc, _+_, _*_, _≤_}
-use mathlib.Core.Path.{_≡_, sym, ap, ap₂, _∙_, subst, subst₂}
-use mathlib.Core.Logic.{⊎-elim}
-use mathlib.Core.List.{List, [], _∷_, _++_}
-use native.Mathlib.Omega.{arith}
-use lib.ListN.{length, getD, take, drop, replicate, length-replicate}
-use lib.Seq.{take-at}
-use Rattle.tables.specs.Checks.{roomFor}
-use Rattle.tables.specs.Column.{column, stepNo}
-use Rattle.tables.specs.Document.{Document, documentOf}
-use Rattle.tables.specs.Pattern.{Shape, shapeOf, ValidShape, ValidPattern}
-use Rattle.tables.specs.Refusal.{Check, Passes, Refuses}
-use Rattle.tables.specs.declared.Refusal.{Refusal}
-use Rattle.tables.specs.declared.NodeNo.{NodeNo}
-use Rattle.tables.specs.declared.Pattern.{Pattern}
+use Rattle.tables.proofs.Kit.{ℕ, zero, suc, _+_, _*_, _≤_, _≡_, sym, ap, ap₂, _∙_, subst, subst₂, ⊎-elim}
+use Rattle.tables.proofs.Kit.{List, [], _∷_, _++_, arith, length, getD, take, drop, replicate, length-replicate, take-at}
+use Rattle.tables.specs.{Checks.roomFor, Column.{column, stepNo}, Document.{Document, documentOf}, Pattern.{Shape, shapeOf, ValidShape, ValidPattern}}
+use Rattle.tables.specs.{Refusal.{Check, Passes, Refuses}, declared.Refusal.Refusal, declared.NodeNo.NodeNo, declared.Pattern.Pattern, declared.Counted.Counted}
 use Rattle.tables.specs.declared.Checked.the-variants as checked
-use Rattle.tables.specs.declared.Counted.{Counted}
 use Rattle.tables.specs.declared.Counted.the-variants as counted
 use Rattle.tables.proofs.Outcomes.{refuses-front, refuses-rest, passes-both, last-holds}
 use Rattle.halves.specs.Bytes.{high, low}
-use Rattle.packets.specs.PatternPacket.{packetPattern, patternChecks, ReadsTwo}
-use Rattle.packets.specs.DocumentPacket.{documentPacket}
-use Rattle.packets.specs.declared.TwoRead.{TwoRead}
-use Rattle.packets.proofs.Views.{TwoRight, two-of, two-told}
-use Rattle.containment.specs.Containment.{AnswersContainment, DecidesContainment}
-use Rattle.containment.specs.Witness.{witnessSize, witnessOf}
-use Rattle.containment.specs.declared.Containment.{Containment}
+use Rattle.packets.specs.{PatternPacket.{packetPattern, patternChecks, ReadsTwo}, DocumentPacket.documentPacket, declared.TwoRead.TwoRead, inner.Putting.Puts}
+use Rattle.packets.proofs.{Views.{TwoRight, two-of, two-told}, Putting.puts-rest}
+use Rattle.containment.specs.{Containment.{AnswersContainment, DecidesContainment}, Witness.{witnessSize, witnessOf}}
+use Rattle.containment.specs.{declared.Containment.Containment, declared.ContainmentAnswer.ContainmentAnswer}
 use Rattle.containment.specs.declared.Containment.the-variants as containment
-use Rattle.containment.specs.declared.ContainmentAnswer.{ContainmentAnswer}
-use Rattle.containment.proofs.Contained.{axes, witness-few}
-use Rattle.containment.proofs.Written.{parents-length, labels-length}
+use Rattle.containment.proofs.{Contained.{axes, witness-few}, Written.{parents-length, labels-length}}
 use Rattle.packet_patterns.specs.Contained.{Shown, freshCheck, ContainsPackets}
-use Rattle.packets.specs.inner.Putting.{Puts}
-use Rattle.packets.proofs.Putting.{puts-rest}
 use Rattle.packet_patterns.proofs.Shown.{mapping-bytes}
 
 -- both lists of a witness have as many entries as it has nodes

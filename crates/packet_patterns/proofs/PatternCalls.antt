@@ -1,31 +1,18 @@
 -- The calls on packets of patterns, from the contracts of the calls that they make. Assumes nothing.
-use Prim.Native.Nat.{ℕ, zero, suc, _≤_}
-use mathlib.Core.Path.{_≡_, sym, ap, _∙_, subst, subst₂}
-use mathlib.Core.List.{List, [], _∷_, _++_}
-use native.Mathlib.Omega.{arith}
-use lib.ListN.{length, drop}
-use Rattle.tables.specs.Checks.{roomFor}
-use Rattle.tables.specs.Pattern.{shapeOf, tableOf, patternOf, zeroPattern, ValidPattern}
-use Rattle.tables.specs.Refusal.{Check, Decided, CountedBy}
-use Rattle.tables.specs.declared.Refusal.{Refusal}
-use Rattle.tables.specs.declared.Pattern.{Pattern}
+use Rattle.tables.proofs.Kit.{ℕ, zero, suc, _≤_, _≡_, sym, ap, _∙_, subst, subst₂, List, [], _∷_, _++_, arith, length, drop}
+use Rattle.tables.specs.{Checks.roomFor, Pattern.{shapeOf, tableOf, patternOf, zeroPattern, ValidPattern}}
+use Rattle.tables.specs.{Refusal.{Check, Decided, CountedBy}, declared.Refusal.Refusal, declared.Pattern.Pattern, declared.Counted.Counted}
 use Rattle.tables.specs.declared.Checked.the-variants as checked
-use Rattle.tables.specs.declared.Counted.{Counted}
 use Rattle.tables.specs.declared.Counted.the-variants as counted
 use Rattle.tables.proofs.Outcomes.{refuses-front, refuses-rest, passes-both, passes-front, passes-rest, counted-rest, counted-known, counted-other}
 use Rattle.halves.specs.Bytes.{Bytes}
 use Rattle.packets.specs.PatternPacket.{patternPacket, packetPattern, patternChecks, ReadsPattern, ReadsTwo, lengthOf, PacketPut, WritesPattern}
-use Rattle.packets.specs.declared.PatternRead.{PatternRead}
-use Rattle.packets.specs.declared.TwoRead.{TwoRead}
-use Rattle.packets.proofs.PatternTrip.{pattern-packet-length, read-then-written}
-use Rattle.packets.proofs.Views.{read-of, pattern-told, two-told}
-use Rattle.joining.specs.Join.{joinOf, joinShape, joinChecks, Joins}
-use Rattle.joining.specs.declared.JoinAnswer.{JoinAnswer}
+use Rattle.packets.specs.{declared.PatternRead.PatternRead, declared.TwoRead.TwoRead}
+use Rattle.packets.proofs.{PatternTrip.{pattern-packet-length, read-then-written}, Views.{read-of, pattern-told, two-told}}
+use Rattle.joining.specs.{Join.{joinOf, joinShape, joinChecks, Joins}, declared.JoinAnswer.JoinAnswer}
 use Rattle.joining.proofs.Called.{called-valid}
-use Rattle.rewriting.specs.Rewriting.{AnswersRewriting, Rewrites, rewritingChecks}
-use Rattle.rewriting.specs.declared.Rewriting.{Rewriting}
+use Rattle.rewriting.specs.{Rewriting.{AnswersRewriting, Rewrites, rewritingChecks}, declared.Rewriting.Rewriting, declared.RewritingAnswer.RewritingAnswer}
 use Rattle.rewriting.specs.declared.Rewriting.the-variants as rewriting
-use Rattle.rewriting.specs.declared.RewritingAnswer.{RewritingAnswer}
 use Rattle.rewriting.proofs.Rewritten.{candidate-unique}
 use Rattle.packet_patterns.specs.Patterns.{JoinsPackets, ServesBy, Rewritten, RewritesPackets, CopiesPacket}
 

@@ -1,13 +1,6 @@
 -- What a containment call puts in the room: the packet of a witness and its answer node, or a mapping. Assumes nothing.
-use Prim.Native.Nat.{ℕ, _+_, _*_, _≤_}
-use mathlib.Core.Path.{_≡_, sym, ap, _∙_}
-use mathlib.Core.List.{List, [], _∷_, _++_}
-use native.Mathlib.Omega.{arith}
-use lib.ListN.{length, getD, take, drop, List·getD-map}
-use lib.Seq.{ext-getD}
-use Rattle.tables.specs.Column.{column, padded, stepNo, stepArray}
-use Rattle.tables.specs.Document.{Document, nodeCount}
-use Rattle.tables.specs.declared.StepNo.{StepNo}
+use Rattle.tables.proofs.Kit.{ℕ, _+_, _*_, _≤_, _≡_, sym, ap, _∙_, List, [], _∷_, _++_, arith, length, getD, take, drop, List·getD-map, ext-getD}
+use Rattle.tables.specs.{Column.{column, padded, stepNo, stepArray}, Document.{Document, nodeCount}, declared.StepNo.StepNo}
 use Rattle.tables.proofs.Columns.{put-block, column-length, column-at, padded-length}
 use Rattle.halves.specs.Bytes.{high, low}
 use Rattle.packets.specs.DocumentPacket.{documentPacket}

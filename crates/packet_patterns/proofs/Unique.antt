@@ -1,20 +1,12 @@
 -- No second answer and no second content of the room fits a call on packets of patterns. Assumes nothing.
-use Prim.Native.Nat.{ℕ, zero, suc, _+_, _*_}
-use mathlib.Core.Path.{_≡_, refl, sym, ap, ap₂, _∙_}
-use mathlib.Core.List.{List, [], _∷_, _++_}
-use lib.ListN.{length, drop}
-use Rattle.tables.specs.Checks.{roomFor}
-use Rattle.tables.specs.Pattern.{shapeOf}
-use Rattle.tables.specs.declared.Pattern.{Pattern}
-use Rattle.tables.specs.declared.Counted.{Counted}
+use Rattle.tables.proofs.Kit.{ℕ, zero, suc, _+_, _*_, _≡_, refl, sym, ap, ap₂, _∙_, List, [], _∷_, _++_, length, drop}
+use Rattle.tables.specs.{Checks.roomFor, Pattern.shapeOf, declared.Pattern.Pattern, declared.Counted.Counted}
 use Rattle.tables.proofs.Columns.{padded-ext}
 use Rattle.halves.specs.Bytes.{high, low}
-use Rattle.packets.specs.PatternPacket.{patternPacket, packetPattern, patternChecks, lengthOf, PacketPut}
-use Rattle.packets.specs.DocumentPacket.{documentPacket}
+use Rattle.packets.specs.{PatternPacket.{patternPacket, packetPattern, patternChecks, lengthOf, PacketPut}, DocumentPacket.documentPacket}
 use Rattle.packets.proofs.Putting.{One, one-room}
 use Rattle.containment.specs.Witness.{witnessSize, witnessOf, answerNode}
-use Rattle.containment.proofs.Deciding.{least-map-unique}
-use Rattle.containment.proofs.FreshLabel.{fresh-unique}
+use Rattle.containment.proofs.{Deciding.least-map-unique, FreshLabel.fresh-unique}
 use Rattle.joining.specs.Join.{joinOf}
 use Rattle.rewriting.proofs.Rewritten.{candidate-unique}
 use Rattle.packet_patterns.specs.Contained.{Shown, containsChecks, ContainsPackets}

@@ -1,22 +1,12 @@
 -- Document packets there and back: what is written reads as the same document, what is read writes as the same bytes, and no second
 -- result of reading or of writing fits. Assumes nothing.
-use Prim.Native.Nat.{ℕ, _+_, _*_, _<_, _≤_}
-use mathlib.Core.Path.{_≡_, refl, sym, ap, ap₂, _∙_, subst}
-use mathlib.Core.List.{List, [], _∷_}
-use native.Mathlib.Omega.{arith}
-use lib.ListN.{length, getD}
-use Rattle.tables.specs.Column.{blocks, column}
-use Rattle.tables.specs.Document.{Document, nodeCount, ValidDocument, documentOf}
-use Rattle.tables.specs.Refusal.{Check, Passes}
-use Rattle.tables.specs.declared.Counted.{Counted}
-use Rattle.tables.proofs.Columns.{blocks-ext, column-length, column-at, column-ext, column-self}
-use Rattle.tables.proofs.Refusals.{counted-unique}
+use Rattle.tables.proofs.Kit.{ℕ, _+_, _*_, _<_, _≤_, _≡_, refl, sym, ap, ap₂, _∙_, subst, List, [], _∷_, arith, length, getD}
+use Rattle.tables.specs.{Column.{blocks, column}, Document.{Document, nodeCount, ValidDocument, documentOf}, Refusal.{Check, Passes}, declared.Counted.Counted}
+use Rattle.tables.proofs.{Columns.{blocks-ext, column-length, column-at, column-ext, column-self}, Refusals.counted-unique, Outcomes.counted-both}
 use Rattle.halves.specs.Bytes.{Bytes, high, low, half}
-use Rattle.packets.specs.DocumentPacket.{nodeBytes, documentPacket, nodesIn, packetDocument, documentChecks, nodeChecks, ReadsBy, ReadsNodes}
-use Rattle.packets.specs.DocumentPacket.{ReadsDocument, putChecks, WritesDocument}
-use Rattle.packets.specs.Header.{Sized}
+use Rattle.packets.specs.DocumentPacket.{nodeBytes, documentPacket, nodesIn, packetDocument, documentChecks, nodeChecks}
+use Rattle.packets.specs.{DocumentPacket.{ReadsBy, ReadsNodes, ReadsDocument, putChecks, WritesDocument}, Header.Sized}
 use Rattle.packets.proofs.Halves.{half-of-bytes, high-half, low-half, packet-length, packet-half, four, packet-self}
-use Rattle.tables.proofs.Outcomes.{counted-both}
 
 -- the three bytes before the nodes
 abbrev pub head : Document → List ℕ

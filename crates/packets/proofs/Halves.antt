@@ -1,11 +1,7 @@
 -- Laws of bytes and of the 16-bit numbers that two of them make, and of lists that are a header followed by blocks of four bytes.
 -- Both packets are such lists. Assumes nothing.
-use Prim.Native.Nat.{ℕ, zero, suc, _+_, _*_, _<_}
-use mathlib.Core.Path.{_≡_, sym, ap, ap₂, _∙_}
-use mathlib.Core.List.{List, [], _∷_, _++_, append-nil, append-assoc}
-use native.Mathlib.Omega.{arith}
-use lib.ListN.{length, getD, length-append}
-use lib.Seq.{getD-append-add}
+use Rattle.tables.proofs.Kit.{ℕ, zero, suc, _+_, _*_, _<_, _≡_, sym, ap, ap₂, _∙_}
+use Rattle.tables.proofs.Kit.{List, [], _∷_, _++_, append-nil, append-assoc, arith, length, getD, length-append, getD-append-add}
 use Rattle.tables.specs.Column.{blocks, column}
 use Rattle.tables.proofs.Columns.{blocks-at, blocks-length, column-self}
 use Rattle.halves.specs.Bytes.{Bytes, high, low, half}

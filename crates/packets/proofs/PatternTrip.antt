@@ -1,27 +1,14 @@
 -- Pattern packets there and back: what is written reads as the same pattern, what is read writes as the same bytes, and no second result
 -- fits either call. Assumes nothing.
-use Prim.Native.Nat.{ℕ, _+_, _*_, _/_, _<_}
-use mathlib.Core.Path.{_≡_, refl, sym, ap₂, _∙_}
-use mathlib.Core.List.{List, [], _∷_}
-use native.Mathlib.Omega.{arith}
-use lib.ListN.{length, getD}
-use Rattle.tables.specs.Column.{blocks}
-use Rattle.tables.specs.Pattern.{Shape, shapeOf, patternOf, ValidShape, ValidPattern, Clean}
-use Rattle.tables.specs.Refusal.{Check, Passes}
-use Rattle.tables.specs.declared.Pattern.{Pattern}
-use Rattle.tables.specs.declared.Counted.{Counted}
-use Rattle.tables.proofs.Columns.{blocks-ext}
-use Rattle.tables.proofs.Rules.{Agree, pattern-of-shape, agree-sym, agree-trans, pattern-of-agree}
-use Rattle.tables.proofs.Refusals.{decided-unique, counted-unique}
+use Rattle.tables.proofs.Kit.{ℕ, _+_, _*_, _/_, _<_, _≡_, refl, sym, ap₂, _∙_, List, [], _∷_, arith, length, getD}
+use Rattle.tables.specs.{Column.blocks, Pattern.{Shape, shapeOf, patternOf, ValidShape, ValidPattern, Clean}}
+use Rattle.tables.specs.{Refusal.{Check, Passes}, declared.Pattern.Pattern, declared.Counted.Counted}
+use Rattle.tables.proofs.{Columns.blocks-ext, Rules.{Agree, pattern-of-shape, agree-sym, agree-trans, pattern-of-agree}}
+use Rattle.tables.proofs.{Refusals.{decided-unique, counted-unique}, Agreement.valid-agree, Outcomes.{decided-both, counted-both}}
 use Rattle.halves.specs.Bytes.{Bytes, high, low, half}
-use Rattle.packets.specs.PatternPacket.{patternLength, stepBytes, patternPacket, packetShape, packetPattern, patternChecks, ReadsPattern, writeChecks}
-use Rattle.packets.specs.PatternPacket.{WritesPattern}
-use Rattle.packets.specs.Header.{Sized}
-use Rattle.packets.specs.declared.PatternRead.{PatternRead}
-use Rattle.packets.proofs.Views.{Read}
-use Rattle.packets.proofs.Halves.{half-of-bytes, high-half, low-half, packet-length, packet-at, packet-half, four, packet-self}
-use Rattle.tables.proofs.Agreement.{valid-agree}
-use Rattle.tables.proofs.Outcomes.{decided-both, counted-both}
+use Rattle.packets.specs.PatternPacket.{patternLength, stepBytes, patternPacket, packetShape, packetPattern, patternChecks}
+use Rattle.packets.specs.{PatternPacket.{ReadsPattern, writeChecks, WritesPattern}, Header.Sized, declared.PatternRead.PatternRead}
+use Rattle.packets.proofs.{Views.Read, Halves.{half-of-bytes, high-half, low-half, packet-length, packet-at, packet-half, four, packet-self}}
 
 -- the four bytes before the steps
 abbrev pub head : Shape → List ℕ

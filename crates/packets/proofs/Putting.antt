@@ -1,14 +1,7 @@
 -- A call's answer from that of its last step, which checks the room and puts a text there; and that no second answer and no second room fit. Assumes nothing.
-use Prim.Native.Nat.{ℕ}
-use mathlib.Core.Path.{_≡_, sym, _∙_, subst}
-use mathlib.Core.List.{List, _++_}
-use lib.ListN.{length, drop}
-use Rattle.tables.specs.Checks.{roomFor}
-use Rattle.tables.specs.Refusal.{Check, Passes, CountedBy}
-use Rattle.tables.specs.declared.Counted.{Counted}
-use Rattle.tables.specs.declared.Counted.the-variants.{Count, Refused}
-use Rattle.tables.proofs.Outcomes.{refuses-rest, passes-both, counted-both}
-use Rattle.tables.proofs.Refusals.{counted-unique}
+use Rattle.tables.proofs.Kit.{ℕ, _≡_, sym, _∙_, subst, List, _++_, length, drop}
+use Rattle.tables.specs.{Checks.roomFor, Refusal.{Check, Passes, CountedBy}, declared.Counted.Counted, declared.Counted.the-variants.{Count, Refused}}
+use Rattle.tables.proofs.{Outcomes.{refuses-rest, passes-both, counted-both}, Refusals.counted-unique}
 use Rattle.packets.specs.inner.Putting.{Puts}
 
 -- the checks before the room hold, and the text is what the entry says

@@ -1,21 +1,10 @@
 -- The nodes of a document packet where the header is right, and the loop that copies a list. Assumes nothing.
-use Prim.Native.Nat.{ℕ, _+_, _*_, _/_, _≤_, _<_}
-use mathlib.Core.Path.{_≡_, sym, ap, ap₂, _∙_}
-use mathlib.Core.List.{List, _++_}
-use native.Mathlib.Omega.{arith}
-use native.Mathlib.Numerals.{add-one}
-use lib.ListN.{length, getD, set, take, drop}
-use lib.Seq.{length-take-le, take-suc, take-at}
-use Rattle.tables.specs.Column.{column}
-use Rattle.tables.specs.Document.{documentOf}
-use Rattle.tables.specs.Refusal.{Refuses, CountedBy}
-use Rattle.tables.specs.declared.Refusal.{Refusal}
-use Rattle.tables.specs.declared.Counted.{Counted}
-use Rattle.tables.proofs.Columns.{column-length, put-next}
-use Rattle.tables.proofs.Outcomes.{last-holds}
+use Rattle.tables.proofs.Kit.{ℕ, _+_, _*_, _/_, _≤_, _<_, _≡_, sym, ap, ap₂, _∙_, List, _++_, arith}
+use Rattle.tables.proofs.Kit.{add-one, length, getD, set, take, drop, length-take-le, take-suc, take-at}
+use Rattle.tables.specs.{Column.column, Document.documentOf, Refusal.{Refuses, CountedBy}, declared.Refusal.Refusal, declared.Counted.Counted}
+use Rattle.tables.proofs.{Columns.{column-length, put-next}, Outcomes.last-holds}
 use Rattle.halves.specs.Bytes.{half}
-use Rattle.packets.specs.Header.{headChecks}
-use Rattle.packets.specs.DocumentPacket.{nodesIn, packetDocument, nodeChecks}
+use Rattle.packets.specs.{Header.headChecks, DocumentPacket.{nodesIn, packetDocument, nodeChecks}}
 use Rattle.packets.proofs.Views.{head-of, nodes-few}
 
 -- what `rows_in` answers

@@ -1,18 +1,10 @@
 -- The two calls on pattern packets, one after the other, by their contracts alone: what is read writes as the same bytes, and what is written reads as
 -- the same pattern. Assumes nothing.
-use Prim.Native.Nat.{ℕ}
-use mathlib.Core.Path.{_≡_, sym, ap, _∙_, subst}
-use mathlib.Core.List.{List}
-use lib.ListN.{length, take, drop}
-use lib.Seq.{take-at}
-use Rattle.tables.specs.Pattern.{shapeOf, zeroPattern, ValidPattern, Clean}
-use Rattle.tables.specs.Refusal.{Decided}
-use Rattle.tables.specs.declared.Pattern.{Pattern}
-use Rattle.tables.specs.declared.Checked.the-variants.{Right}
-use Rattle.tables.specs.declared.Counted.the-variants.{Count}
+use Rattle.tables.proofs.Kit.{ℕ, _≡_, sym, ap, _∙_, subst, List, length, take, drop, take-at}
+use Rattle.tables.specs.{Pattern.{shapeOf, zeroPattern, ValidPattern, Clean}, Refusal.Decided, declared.Pattern.Pattern}
+use Rattle.tables.specs.{declared.Checked.the-variants.Right, declared.Counted.the-variants.Count}
 use Rattle.halves.specs.Bytes.{Bytes}
-use Rattle.packets.specs.PatternPacket.{patternPacket, packetPattern, patternChecks, ReadsPattern, WritesPattern}
-use Rattle.packets.specs.declared.PatternRead.{PatternRead}
+use Rattle.packets.specs.{PatternPacket.{patternPacket, packetPattern, patternChecks, ReadsPattern, WritesPattern}, declared.PatternRead.PatternRead}
 use Rattle.packets.proofs.Views.{read-of}
 use Rattle.packets.proofs.PatternTrip.{pattern-packet-length, pattern-packet-passes, read-then-written, written-then-read, reads-pattern-unique}
 

@@ -1,24 +1,11 @@
 -- What the checks of a packet say, by name: a header, a pattern packet, a document packet, two pattern packets. Each list of checks passes exactly where its
 -- record holds. Assumes nothing.
-use Prim.Native.Nat.{ℕ, _≤_}
-use mathlib.Core.Path.{_≡_, sym, subst}
-use mathlib.Core.List.{List, _++_}
-use native.Mathlib.Omega.{arith}
-use lib.ListN.{length, getD}
-use Rattle.tables.specs.Checks.{documentRight, patternRight}
-use Rattle.tables.specs.Document.{ValidDocument}
-use Rattle.tables.specs.Pattern.{zeroPattern, ValidPattern}
-use Rattle.tables.specs.Refusal.{Passes, Decided}
-use Rattle.tables.specs.declared.Pattern.{Pattern}
-use Rattle.tables.specs.declared.Refusal.{Refusal}
-use Rattle.tables.specs.declared.Checked.{Checked}
-use Rattle.tables.specs.declared.Checked.the-variants.{Right, Refused}
+use Rattle.tables.proofs.Kit.{ℕ, _≤_, _≡_, sym, subst, List, _++_, arith, length, getD}
+use Rattle.tables.specs.{Checks.{documentRight, patternRight}, Document.ValidDocument, Pattern.{zeroPattern, ValidPattern}, Refusal.{Passes, Decided}}
+use Rattle.tables.specs.{declared.Pattern.Pattern, declared.Refusal.Refusal, declared.Checked.Checked, declared.Checked.the-variants.{Right, Refused}}
 use Rattle.tables.proofs.Outcomes.{refuses-front, refuses-rest, passes-both, passes-front, passes-rest}
-use Rattle.packets.specs.Header.{Sized, headChecks}
-use Rattle.packets.specs.PatternPacket.{packetPattern, patternChecks, ReadsPattern, ReadsTwo}
-use Rattle.packets.specs.DocumentPacket.{nodesIn, packetDocument, documentRules}
-use Rattle.packets.specs.declared.PatternRead.{PatternRead}
-use Rattle.packets.specs.declared.TwoRead.{TwoRead}
+use Rattle.packets.specs.{Header.{Sized, headChecks}, PatternPacket.{packetPattern, patternChecks, ReadsPattern, ReadsTwo}}
+use Rattle.packets.specs.{DocumentPacket.{nodesIn, packetDocument, documentRules}, declared.PatternRead.PatternRead, declared.TwoRead.TwoRead}
 
 -- the header is right, for `most` rows at most after `extra` bytes
 pub record Head (bs : List ℕ) (extra most : ℕ) : Type 0 where

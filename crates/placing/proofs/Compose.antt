@@ -1,8 +1,6 @@
 -- Sending composes, at once for placements and for mappings, and has an identity. Assumes nothing.
-use Prim.Native.Nat.{ℕ, zero, suc}
-use mathlib.Core.Path.{_≡_, refl, _∙_, subst}
-use Rattle.tables.specs.Tree.{Child, Below, child, under, Rows}
-use Rattle.tables.specs.Pattern.{Shape, rowsOf}
+use Rattle.tables.proofs.Kit.{ℕ, zero, suc, _≡_, refl, _∙_, subst}
+use Rattle.tables.specs.{Tree.{Child, Below, child, under, Rows}, Pattern.{Shape, rowsOf}}
 use Rattle.tables.proofs.Trees.{below-trans}
 use Rattle.placing.specs.Placement.{LabelFits, Goes, Sends}
 

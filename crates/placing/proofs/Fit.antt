@@ -1,10 +1,6 @@
 -- One problem behind placements and mappings, a task: send the rows of a tree to numbers, each row to one that is right for it and each edge to one that is
 -- right for it. Whether a row with all below it can be sent is settled child by child. Assumes nothing.
-use Prim.Native.Nat.{ℕ, zero, suc, _+_, _≤_, _<_}
-use mathlib.Core.Path.{_≡_, refl, sym, ap, _∙_, subst, subst₂}
-use mathlib.Core.Logic.{inl, inr, ⊎-elim}
-use native.Mathlib.Omega.{arith}
-use native.Mathlib.Decide.{ℕ-discrete}
+use Rattle.tables.proofs.Kit.{ℕ, zero, suc, _+_, _≤_, _<_, _≡_, refl, sym, ap, _∙_, subst, subst₂, inl, inr, ⊎-elim, arith, ℕ-discrete}
 use Rattle.tables.specs.Tree.{Tree, Child, Below, child, From}
 use Rattle.tables.proofs.Choice.{sel, sel-yes, sel-no, below-or-at, upd, upd-same, upd-other}
 use Rattle.tables.proofs.Trees.{Ordered, below-trans, below-lt, from-child, below-up, below-parent, from-here, from-root, dec-below, dec-from}

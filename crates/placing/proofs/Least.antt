@@ -1,23 +1,11 @@
 -- The smallest way to send a task: each row in turn goes to the smallest number that its parent's and what lies below it allow. It runs, it fits whenever
 -- anything does, and no other list is smaller. Assumes nothing.
-use Prim.Native.Nat.{ℕ, zero, suc, _+_, _≤_, _<_}
-use mathlib.Core.Path.{_≡_, refl, sym, ap, _∙_, subst}
-use mathlib.Core.Logic.{⊎-elim}
-use mathlib.Core.Bool.{Bool, true, false, _&&_, cond}
-use mathlib.Core.List.{List, [], _∷_, _++_}
-use native.Mathlib.Omega.{arith}
-use native.Mathlib.Nat.{eq-or-lt-of-le, eq-zero-or-pos}
-use native.Mathlib.Decide.{decLt}
-use lib.Dec.{T}
-use lib.ListN.{length, getD, length-append, List·getD-append}
-use lib.Seq.{getD-append-add}
+use Rattle.tables.proofs.Kit.{ℕ, zero, suc, _+_, _≤_, _<_, _≡_, refl, sym, ap, _∙_, subst, ⊎-elim, Bool, true, false, _&&_, cond, List, [], _∷_, _++_}
+use Rattle.tables.proofs.Kit.{arith, eq-or-lt-of-le, eq-zero-or-pos, decLt, T, length, getD, length-append, List·getD-append, getD-append-add}
 use Rattle.tables.specs.Tree.{Tree, Child, child}
-use Rattle.tables.proofs.Choice.{below-or-at}
-use Rattle.tables.proofs.Trees.{Ordered, below-lt}
-use Rattle.tables.proofs.Tests.{Tells, tells-and}
+use Rattle.tables.proofs.{Choice.below-or-at, Trees.{Ordered, below-lt}, Tests.{Tells, tells-and}}
 use Rattle.placing.specs.Smallest.{NoLater, same, less}
-use Rattle.placing.proofs.Fit.{Task, Fit, Able, able-ok, able-next, whole-able}
-use Rattle.placing.proofs.Probe.{Probe, Probes, canSend, tells-can}
+use Rattle.placing.proofs.{Fit.{Task, Fit, Able, able-ok, able-next, whole-able}, Probe.{Probe, Probes, canSend, tells-can}}
 
 -- two lists each no later than the other are one
 pub no-later-unique : (f g : ℕ → ℕ) (n : ℕ) → NoLater f g n → NoLater g f n → (u : ℕ) → u < n → f u ≡ g u

@@ -1,17 +1,8 @@
 -- Lists of the numbers of which a statement holds: only one fits, and a test over a range writes it. Assumes nothing.
-use Prim.Native.Nat.{ℕ, zero, suc, _+_, _≤_, _<_}
-use mathlib.Core.Path.{_≡_, refl, sym, ap, _∙_, subst}
-use mathlib.Core.Logic.{_⊎_, inl, inr, ⊎-elim, _↔_}
-use mathlib.Core.Bool.{Bool, true, false, cond}
-use mathlib.Core.List.{List, [], _∷_, _++_}
-use native.Mathlib.Omega.{arith}
-use native.Mathlib.Decide.{decLt, ℕ-discrete}
-use lib.ListN.{length, getD, length-append, List·getD-append}
-use lib.Seq.{getD-append-add, ext-getD}
-use Rattle.tables.specs.Document.{Document, nodeCount}
-use Rattle.tables.specs.Pattern.{Shape}
-use Rattle.tables.proofs.Choice.{below-or-at}
-use Rattle.tables.proofs.Tests.{Tells}
+use Rattle.tables.proofs.Kit.{ℕ, zero, suc, _+_, _≤_, _<_, _≡_, refl, sym, ap, _∙_, subst, _⊎_, inl, inr, ⊎-elim, _↔_, Bool, true, false, cond}
+use Rattle.tables.proofs.Kit.{List, [], _∷_, _++_, arith, decLt, ℕ-discrete, length, getD, length-append, List·getD-append, getD-append-add, ext-getD}
+use Rattle.tables.specs.{Document.{Document, nodeCount}, Pattern.Shape}
+use Rattle.tables.proofs.{Choice.below-or-at, Tests.Tells}
 use Rattle.placing.specs.Answer.{Started, In, Ascending, Lists}
 
 -- in an ascending list a later entry is larger

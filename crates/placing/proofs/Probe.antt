@@ -1,12 +1,7 @@
 -- A task's tests, and the recursion over them that decides whether a row with all below it, or the whole tree, can be sent. Assumes nothing.
-use Prim.Native.Nat.{ℕ, zero, suc, _+_, _≤_, _<_}
-use mathlib.Core.Path.{refl, subst}
-use mathlib.Core.Bool.{Bool, false, _&&_}
-use native.Mathlib.Omega.{arith}
-use lib.Dec.{T}
+use Rattle.tables.proofs.Kit.{ℕ, zero, suc, _+_, _≤_, _<_, refl, subst, Bool, false, _&&_, arith, T}
 use Rattle.tables.specs.Tree.{Tree, Child, child}
-use Rattle.tables.proofs.Trees.{Ordered, below-lt}
-use Rattle.tables.proofs.Tests.{Tells, tells-and, tells-imp, tells-iff, tells-self, imp, every, some, tells-every, tells-some}
+use Rattle.tables.proofs.{Trees.{Ordered, below-lt}, Tests.{Tells, tells-and, tells-imp, tells-iff, tells-self, imp, every, some, tells-every, tells-some}}
 use Rattle.tables.proofs.TreeTests.{isChild, tells-child}
 use Rattle.placing.proofs.Fit.{Task, Able, able, able-ok, able-next, Whole, whole-able, whole-root, whole-up, whole-down}
 

@@ -1,16 +1,9 @@
 -- Placements are fits of a task, so the recursion decides them and a test runs. Assumes nothing.
-use Prim.Native.Nat.{ℕ, zero, suc, _<_}
-use mathlib.Core.Logic.{_↔_}
-use mathlib.Core.Bool.{Bool, _&&_}
-use lib.Dec.{ltb, eqb}
-use Rattle.tables.specs.Tree.{Rows}
-use Rattle.tables.specs.Pattern.{Shape}
-use Rattle.tables.proofs.Trees.{Ordered}
-use Rattle.tables.proofs.Tests.{Tells, tells-lt, tells-eq, tells-and, tells-iff}
-use Rattle.tables.proofs.TreeTests.{isChild, tells-child, isBelow, tells-below}
+use Rattle.tables.proofs.Kit.{ℕ, zero, suc, _<_, _↔_, Bool, _&&_, ltb, eqb}
+use Rattle.tables.specs.{Tree.Rows, Pattern.Shape}
+use Rattle.tables.proofs.{Trees.Ordered, Tests.{Tells, tells-lt, tells-eq, tells-and, tells-iff}, TreeTests.{isChild, tells-child, isBelow, tells-below}}
 use Rattle.placing.specs.Placement.{LabelFits, Takes, Goes, Sends, Reaches, ReachesFrom}
-use Rattle.placing.proofs.Fit.{Task, Fit, Able, fit-able, able-fit, Whole}
-use Rattle.placing.proofs.Probe.{Probe, Probes, can, canSend, canWhole, tells-can, tells-whole}
+use Rattle.placing.proofs.{Fit.{Task, Fit, Able, fit-able, able-fit, Whole}, Probe.{Probe, Probes, can, canSend, canWhole, tells-can, tells-whole}}
 
 -- the task of sending a pattern's steps to rows
 abbrev pub task : Shape → Rows → Task

@@ -1,20 +1,11 @@
 -- Tables that a byte of a number looks up: how one is filled, and what the bytes find. Assumes nothing.
-use Prim.Native.Nat.{ℕ, zero, suc, _+_, _*_, _-_, _/_, _%_, _^_, _≤_, _<_}
-use mathlib.Core.Path.{_≡_, refl, sym, ap, _∙_, subst}
-use mathlib.Core.Logic.{_⊎_, inl, inr, _≢_, _↔_}
-use mathlib.Core.List.{List}
-use native.Mathlib.Omega.{arith}
-use native.Mathlib.Nat.{pow-succ'}
-use native.Mathlib.Decide.{ℕ-discrete, decLt, decLe}
-use lib.Bits.{bitOr}
-use lib.Pow.{pow-mono}
-use lib.ListN.{length, getD, set, replicate, length-set, length-replicate}
-use lib.Seq.{getD-set-same, getD-set-other}
+use Rattle.tables.proofs.Kit.{ℕ, zero, suc, _+_, _*_, _-_, _/_, _%_, _^_, _≤_, _<_, _≡_, refl, sym, ap, _∙_, subst}
+use Rattle.tables.proofs.Kit.{_⊎_, inl, inr, _≢_, _↔_, List, arith, pow-succ', ℕ-discrete, decLt, decLe, bitOr, pow-mono}
+use Rattle.tables.proofs.Kit.{length, getD, set, replicate, length-set, length-replicate, getD-set-same, getD-set-other}
 use Rattle.tables.specs.Bits.{bit, Marks}
 use Rattle.tables.proofs.Bits.{bit-shr, bit-mod, bit-in, bit-least, set-here, set-other}
-use Rattle.tables.proofs.Marks.{marks-none, marks-to, marks-or, with-top, bits-lt}
+use Rattle.tables.proofs.{Marks.{marks-none, marks-to, marks-or, with-top, bits-lt}, MarkTables.zeros-at}
 use Rattle.plan.specs.Leading.{Doubled, Spread, Led, lookUp}
-use Rattle.tables.proofs.MarkTables.{zeros-at}
 
 -- a table that is being doubled: u entries are written
 pub record Doubling (before : List ℕ) (base top m u : ℕ) (after : List ℕ) : Type 0 where

@@ -1,24 +1,12 @@
 -- The steps that are missing below a row, the steps that lack one of them, found by a table, a shift or groups, and the steps that fit. Assumes nothing.
-use Prim.Native.Nat.{ℕ, _+_, _/_, _^_}
-use mathlib.Core.Path.{_≡_, sym, subst}
-use mathlib.Core.Logic.{_⊎_, inl, inr, ⊎-elim}
-use mathlib.Core.List.{List}
-use native.Mathlib.Omega.{arith}
-use native.Mathlib.Decide.{ℕ-discrete}
-use lib.Bits.{bitOr, bitAnd}
-use lib.ListN.{getD}
-use Rattle.tables.specs.Bits.{bit, Marks}
-use Rattle.tables.specs.Tree.{Child}
-use Rattle.tables.specs.Pattern.{Shape}
+use Rattle.tables.proofs.Kit.{ℕ, _+_, _/_, _^_, _≡_, sym, subst, _⊎_, inl, inr, ⊎-elim, List, arith, ℕ-discrete, bitOr, bitAnd, getD}
+use Rattle.tables.specs.{Bits.{bit, Marks}, Tree.Child, Pattern.Shape}
 use Rattle.tables.proofs.Bits.{bit-pow, some-bit}
 use Rattle.tables.proofs.Marks.{bit-cases, marks-none, marks-bits, marks-to, marks-one, marks-or, marks-and, marks-without, marks-lt}
 use Rattle.placing.specs.Placement.{LabelFits}
 use Rattle.plan.specs.Steps.{maskFor, without, OfLabel, OfAxis, SetsOf, Missing, Lacks, Lacking, FitsBy}
-use Rattle.plan.specs.Leading.{ToParent, Led, Spread, lookUp, LaterChild, Grouped, Reached}
-use Rattle.plan.specs.declared.Sets.{Sets}
-use Rattle.plan.proofs.Bytes.{look-up-led}
-use Rattle.plan.proofs.Shifts.{only-next, shift-down, shift-in}
-use Rattle.plan.proofs.Groups.{bit-some}
+use Rattle.plan.specs.{Leading.{ToParent, Led, Spread, lookUp, LaterChild, Grouped, Reached}, declared.Sets.Sets}
+use Rattle.plan.proofs.{Bytes.look-up-led, Shifts.{only-next, shift-down, shift-in}, Groups.bit-some}
 
 module _ (A : Shape) (sets : Sets) (g : SetsOf A sets) (c d : ℕ) where
   -- an edge has an axis, and a place is found by it

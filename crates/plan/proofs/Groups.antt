@@ -1,22 +1,9 @@
 -- The groups of later child steps: how they are filled, and what they find. Assumes nothing.
-use Prim.Native.Nat.{ℕ, _+_, _^_, _<_}
-use mathlib.Core.Path.{_≡_, sym, _∙_, subst}
-use mathlib.Core.Logic.{_⊎_, inl, inr, ⊎-elim}
-use mathlib.Core.List.{List}
-use native.Mathlib.Omega.{arith}
-use native.Mathlib.Decide.{ℕ-discrete}
-use lib.Bits.{bitAnd, bitOr}
-use lib.ListN.{length, getD, set}
-use lib.Seq.{getD-set-same, getD-set-other}
-use Rattle.tables.specs.Bits.{bit, Marks}
-use Rattle.tables.specs.Tree.{Child, child}
-use Rattle.tables.specs.Pattern.{Shape, ValidShape}
-use Rattle.tables.proofs.Bits.{bit-zero}
-use Rattle.tables.proofs.Marks.{marks-none, marks-to, marks-bits, marks-or, marks-without}
-use Rattle.tables.proofs.Rules.{shape-ordered}
-use Rattle.tables.proofs.Trees.{below-lt}
-use Rattle.plan.specs.Steps.{without, Next}
-use Rattle.plan.specs.Leading.{LaterChild, Grouped, Groups, Reached}
+use Rattle.tables.proofs.Kit.{ℕ, _+_, _^_, _<_, _≡_, sym, _∙_, subst, _⊎_, inl, inr, ⊎-elim, List, arith}
+use Rattle.tables.proofs.Kit.{ℕ-discrete, bitAnd, bitOr, length, getD, set, getD-set-same, getD-set-other}
+use Rattle.tables.specs.{Bits.{bit, Marks}, Tree.{Child, child}, Pattern.{Shape, ValidShape}}
+use Rattle.tables.proofs.{Bits.bit-zero, Marks.{marks-none, marks-to, marks-bits, marks-or, marks-without}, Rules.shape-ordered, Trees.below-lt}
+use Rattle.plan.specs.{Steps.{without, Next}, Leading.{LaterChild, Grouped, Groups, Reached}}
 
 module _ (to : List ℕ) (next : ℕ) where
   -- no step has had its turn

@@ -1,21 +1,11 @@
 -- Which steps of a pattern fit at each row, from the last row to the first: how such a pass starts, one turn, and what it finds. The rows are a document's
 -- nodes or another pattern's steps, and their two numbers are functions of the row, whatever lists they stand in. Assumes nothing.
-use Prim.Native.Nat.{ℕ, zero, suc, _≤_, _<_}
-use mathlib.Core.Path.{_≡_, refl, sym, ap, _∙_, subst}
-use mathlib.Core.Logic.{_⊎_, inl, inr, ⊎-elim, _↔_}
-use native.Mathlib.Omega.{arith}
-use native.Mathlib.Nat.{eq-or-lt-of-le}
-use native.Mathlib.Decide.{ℕ-discrete}
-use lib.Bits.{bitOr}
-use Rattle.tables.specs.Bits.{bit, Marks}
-use Rattle.tables.specs.Tree.{Child, Below, child, From, Rows}
-use Rattle.tables.specs.Pattern.{Shape}
-use Rattle.tables.proofs.Marks.{marks-to, marks-or, marks-none}
-use Rattle.tables.proofs.Trees.{Ordered, below-lt, below-top, top-below}
+use Rattle.tables.proofs.Kit.{ℕ, zero, suc, _≤_, _<_, _≡_, refl, sym, ap, _∙_, subst, _⊎_, inl, inr, ⊎-elim, _↔_, arith, eq-or-lt-of-le, ℕ-discrete, bitOr}
+use Rattle.tables.specs.{Bits.{bit, Marks}, Tree.{Child, Below, child, From, Rows}, Pattern.Shape}
+use Rattle.tables.proofs.{Marks.{marks-to, marks-or, marks-none}, Trees.{Ordered, below-lt, below-top, top-below}}
 use Rattle.placing.specs.Placement.{Goes}
 use Rattle.placing.proofs.Fit.{Task, Able, able, able-ok, able-next}
-use Rattle.plan.specs.Steps.{maskFor, FitsBy}
-use Rattle.plan.specs.Rising.{Turned}
+use Rattle.plan.specs.{Steps.{maskFor, FitsBy}, Rising.Turned}
 
 module _ (X : Rows) (Fits : ℕ → ℕ → Type 0) where
   -- step s fits at a child of row i that is k or later, along a child edge

@@ -1,18 +1,8 @@
 -- Where no step of a set is a fork, its steps lead to their next steps alone, and a shift finds these; so it does on the way back. Assumes nothing.
-use Prim.Native.Nat.{ℕ, zero, suc, _+_, _*_, _/_, _%_, _^_, _<_}
-use mathlib.Core.Path.{_≡_, sym, ap, _∙_, subst}
-use native.Mathlib.Omega.{arith}
-use native.Mathlib.Decide.{ℕ-discrete}
-use native.Mathlib.Nat.{mul-div-left}
-use lib.Bits.{bitAnd}
-use lib.Pow.{pow-pos}
-use Rattle.tables.specs.Bits.{bit, Marks}
-use Rattle.tables.specs.Tree.{Child}
-use Rattle.tables.specs.Pattern.{Shape, ValidShape}
-use Rattle.tables.proofs.Bits.{bit-zero, bit-and, bit-shr, bit-mod}
-use Rattle.tables.proofs.Marks.{marks-bits, marks-and}
-use Rattle.plan.specs.Steps.{Next, Forked}
-use Rattle.plan.specs.Leading.{ToParent, Led}
+use Rattle.tables.proofs.Kit.{ℕ, zero, suc, _+_, _*_, _/_, _%_, _^_, _<_, _≡_, sym, ap, _∙_, subst, arith, ℕ-discrete, mul-div-left, bitAnd, pow-pos}
+use Rattle.tables.specs.{Bits.{bit, Marks}, Tree.Child, Pattern.{Shape, ValidShape}}
+use Rattle.tables.proofs.{Bits.{bit-zero, bit-and, bit-shr, bit-mod}, Marks.{marks-bits, marks-and}}
+use Rattle.plan.specs.{Steps.{Next, Forked}, Leading.{ToParent, Led}}
 
 -- a bit of a number shifted up by one
 pub bit-up : (x s : ℕ) → suc s < 64 → bit (x * 2 ^ 1 % 2 ^ 64) (suc s) ≡ bit x s

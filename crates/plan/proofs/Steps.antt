@@ -1,21 +1,10 @@
 -- What a loop over the steps fills: the steps by the bytes of their label, the parent of each, and those on which another than the next hangs.
 -- Assumes nothing.
-use Prim.Native.Nat.{ℕ, _+_, _/_, _%_, _^_, _<_}
-use mathlib.Core.Path.{_≡_, sym, ap, _∙_, subst}
-use mathlib.Core.Logic.{_≢_}
-use mathlib.Core.List.{List}
-use native.Mathlib.Omega.{arith}
-use native.Mathlib.Decide.{ℕ-discrete}
-use lib.ListN.{length, getD, set, replicate}
-use lib.Seq.{getD-set-same, getD-set-other}
-use lib.Bits.{bitAnd, bitOr}
-use Rattle.tables.specs.Bits.{bit, Marks}
-use Rattle.tables.specs.Pattern.{Shape}
-use Rattle.tables.proofs.Bits.{set-here, set-other}
-use Rattle.tables.proofs.Marks.{marks-none, marks-to, marks-one, marks-and}
-use Rattle.tables.proofs.MarkTables.{zeros-at, Keyed, keyed-all}
-use Rattle.plan.specs.Steps.{OfLabel, Labelled, Forked}
-use Rattle.plan.specs.Leading.{ToParent}
+use Rattle.tables.proofs.Kit.{ℕ, _+_, _/_, _%_, _^_, _<_, _≡_, sym, ap, _∙_, subst, _≢_, List, arith, ℕ-discrete}
+use Rattle.tables.proofs.Kit.{length, getD, set, replicate, getD-set-same, getD-set-other, bitAnd, bitOr}
+use Rattle.tables.specs.{Bits.{bit, Marks}, Pattern.Shape}
+use Rattle.tables.proofs.{Bits.{set-here, set-other}, Marks.{marks-none, marks-to, marks-one, marks-and}, MarkTables.{zeros-at, Keyed, keyed-all}}
+use Rattle.plan.specs.{Steps.{OfLabel, Labelled, Forked}, Leading.ToParent}
 
 -- entry u has the one number f u, where u is from 1 on and below k
 pub record Pointed (f : ℕ → ℕ) (k : ℕ) (table : List ℕ) : Type 0 where

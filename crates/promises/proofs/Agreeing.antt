@@ -1,23 +1,11 @@
 -- Shapes that agree on their steps are placed alike, have the same answers, and are sent into alike; checks that ask the same refuse alike. Assumes nothing.
-use Prim.Native.Nat.{ℕ, zero, suc, _<_}
-use mathlib.Core.Path.{_≡_, refl, sym, _∙_, subst}
-use mathlib.Core.Logic.{inl, inr, ⊎-elim, _↔_}
-use mathlib.Core.List.{List, [], _∷_}
-use Rattle.tables.specs.Tree.{Child, From, Rows}
-use Rattle.tables.specs.Document.{Document, nodesOf}
-use Rattle.tables.specs.Pattern.{Shape, shapeOf, rowsOf}
-use Rattle.tables.specs.Refusal.{Check, Passes, Refuses, Decided, CountedBy}
-use Rattle.tables.specs.declared.Pattern.{Pattern}
-use Rattle.tables.specs.declared.Refusal.{Refusal}
-use Rattle.tables.specs.declared.Checked.{Checked}
+use Rattle.tables.proofs.Kit.{ℕ, zero, suc, _<_, _≡_, refl, sym, _∙_, subst, inl, inr, ⊎-elim, _↔_, List, [], _∷_}
+use Rattle.tables.specs.{Tree.{Child, From, Rows}, Document.{Document, nodesOf}, Pattern.{Shape, shapeOf, rowsOf}, Refusal.{Check, Passes, Refuses}}
+use Rattle.tables.specs.{Refusal.{Decided, CountedBy}, declared.Pattern.Pattern, declared.Refusal.Refusal, declared.Checked.Checked, declared.Counted.Counted}
 use Rattle.tables.specs.declared.Checked.the-variants as checked
-use Rattle.tables.specs.declared.Counted.{Counted}
 use Rattle.tables.specs.declared.Counted.the-variants as counted
-use Rattle.tables.proofs.Trees.{from-here}
-use Rattle.tables.proofs.Rules.{Agree, agree-sym}
-use Rattle.tables.proofs.Agreement.{below-agree}
-use Rattle.placing.specs.Placement.{Takes, Goes, Sends, Reaches}
-use Rattle.placing.specs.Answer.{Begins, Answer}
+use Rattle.tables.proofs.{Trees.from-here, Rules.{Agree, agree-sym}, Agreement.below-agree}
+use Rattle.placing.specs.{Placement.{Takes, Goes, Sends, Reaches}, Answer.{Begins, Answer}}
 use Rattle.answers.specs.Working.{FitsAt}
 use Rattle.promises.specs.SameSteps.{SameSteps}
 

@@ -1,18 +1,8 @@
 -- Shapes that agree on their steps: containment, mappings and witnesses, joins, and candidates for rewriting are the same. Assumes nothing.
-use Prim.Native.Nat.{ℕ, zero, suc, _+_, _-_, _≤_, _<_}
-use mathlib.Core.Path.{_≡_, refl, sym, ap, ap₂, _∙_, subst}
-use mathlib.Core.Logic.{inl, inr, ⊎-elim}
-use mathlib.Core.List.{[], _∷_, _++_}
-use native.Mathlib.Omega.{arith}
-use native.Mathlib.Decide.{decLt}
-use lib.ListN.{length, getD}
-use Rattle.tables.specs.Column.{blocks}
-use Rattle.tables.specs.Document.{documentOf}
-use Rattle.tables.specs.Pattern.{Shape, shapeOf, ValidShape, ValidPattern}
-use Rattle.tables.specs.declared.Pattern.{Pattern}
-use Rattle.tables.proofs.Trees.{parent-lt, from-here}
-use Rattle.tables.proofs.Columns.{blocks-ext}
-use Rattle.tables.proofs.Rules.{Agree, agree-sym, pattern-of-agree, shape-ordered}
+use Rattle.tables.proofs.Kit.{ℕ, zero, suc, _+_, _-_, _≤_, _<_, _≡_, refl, sym, ap, ap₂, _∙_, subst}
+use Rattle.tables.proofs.Kit.{inl, inr, ⊎-elim, [], _∷_, _++_, arith, decLt, length, getD}
+use Rattle.tables.specs.{Column.blocks, Document.documentOf, Pattern.{Shape, shapeOf, ValidShape, ValidPattern}, declared.Pattern.Pattern}
+use Rattle.tables.proofs.{Trees.{parent-lt, from-here}, Columns.blocks-ext, Rules.{Agree, agree-sym, pattern-of-agree, shape-ordered}}
 use Rattle.placing.specs.Smallest.{NoLater}
 use Rattle.containment.specs.Mapping.{Maps, LeastMap, Contained}
 use Rattle.containment.specs.Witness.{Stands, Fresh, descendants, ownNode, witnessSize, hook, parentsFor, labelsFor, witnessOf, answerNode}

@@ -1,24 +1,13 @@
 -- What `ask` prints for a rewriting: whenever the third line is a list, it lists the nodes of the second line. Assumes nothing.
-use Prim.Native.Nat.{ℕ}
-use mathlib.Core.Path.{_≡_, sym, ap, _∙_}
-use mathlib.Core.Logic.{_⊎_, inl, inr}
-use mathlib.Core.List.{List, _++_, append-assoc}
-use native.Mathlib.Omega.{arith}
-use lib.ListN.{getD}
-use Rattle.tables.specs.Checks.{documentRight}
-use Rattle.tables.specs.Document.{Document, ValidDocument}
-use Rattle.tables.specs.Pattern.{shapeOf}
-use Rattle.tables.specs.declared.Pattern.{Pattern}
+use Rattle.tables.proofs.Kit.{ℕ, _≡_, sym, ap, _∙_, _⊎_, inl, inr, List, _++_, append-assoc, arith, getD}
+use Rattle.tables.specs.{Checks.documentRight, Document.{Document, ValidDocument}, Pattern.shapeOf, declared.Pattern.Pattern}
 use Rattle.tables.proofs.Outcomes.{passes-rest}
 use Rattle.packets.specs.Header.{headChecks}
 use Rattle.placing.specs.Answer.{Answer, Lists}
 use Rattle.placing.proofs.Listing.{lists-unique, lists-iff}
-use Rattle.asking.specs.Text.{viewWord, queryWord, rewritingWord, line, noneLine, refusedLine}
-use Rattle.asking.specs.Parts.{documentPart}
+use Rattle.asking.specs.{Text.{viewWord, queryWord, rewritingWord, line, noneLine, refusedLine}, Parts.documentPart}
 use Rattle.asking.specs.Replies.{ThirdLine, handed, none, refused, documentIn, Replies, document, view, query, extra, answered}
-use Rattle.promises.proofs.Joining.{started-by}
-use Rattle.promises.proofs.Lines.{line-then, line-unique, line-not-none, line-not-refused}
-use Rattle.promises.proofs.Rewriting.{serves-gives}
+use Rattle.promises.proofs.{Joining.started-by, Lines.{line-then, line-unique, line-not-none, line-not-refused}, Rewriting.serves-gives}
 
 -- the third line is the list of the query's answers, or none, or the refusal
 pub third-is : (d : Document) (Q U : Pattern) (starts answers text : List ℕ) → ValidDocument d → Lists (Answer (shapeOf U) d) starts → Lists

@@ -1,25 +1,14 @@
 -- The containment call says contained exactly where it is so on every document; where it says apart, the document that it hands over tells the two patterns
 -- apart by the Answers call itself. Assumes nothing.
-use Prim.Native.Nat.{ℕ}
-use mathlib.Core.Path.{_≡_, refl}
-use mathlib.Core.Logic.{_↔_}
-use mathlib.Core.List.{List}
-use native.Mathlib.Omega.{arith}
-use lib.ListN.{length, take}
-use Rattle.tables.specs.Pattern.{shapeOf}
-use Rattle.tables.specs.Refusal.{Passes}
-use Rattle.tables.specs.declared.NodeNo.{NodeNo}
-use Rattle.tables.specs.declared.Pattern.{Pattern}
-use Rattle.tables.specs.declared.StepNo.{StepNo}
+use Rattle.tables.proofs.Kit.{ℕ, _≡_, refl, _↔_, List, arith, length, take}
+use Rattle.tables.specs.{Pattern.shapeOf, Refusal.Passes, declared.NodeNo.NodeNo, declared.Pattern.Pattern, declared.StepNo.StepNo}
 use Rattle.tables.specs.declared.Counted.the-variants as counted
 use Rattle.tables.proofs.Refusals.{refuses-not-passes}
 use Rattle.placing.specs.Answer.{Begins, In}
 use Rattle.answers.specs.Answers.{FindsAnswers}
-use Rattle.containment.specs.Mapping.{Contained}
-use Rattle.containment.specs.Containment.{containmentChecks, AnswersContainment, DecidesContainment}
-use Rattle.containment.specs.declared.Containment.{Containment}
+use Rattle.containment.specs.{Mapping.Contained, Containment.{containmentChecks, AnswersContainment, DecidesContainment}}
+use Rattle.containment.specs.{declared.Containment.Containment, declared.ContainmentAnswer.ContainmentAnswer}
 use Rattle.containment.specs.declared.Containment.the-variants as containment
-use Rattle.containment.specs.declared.ContainmentAnswer.{ContainmentAnswer}
 use Rattle.containment.proofs.Called.{frontOf, call-apart}
 use Rattle.promises.proofs.Joining.{front}
 

@@ -1,25 +1,15 @@
 -- The join call, the Answers call and its started form agree: the joined pattern has, list for list, the answers found by starting the compensation at the
 -- view's answers, and these are never refused as a start list. Assumes nothing.
-use Prim.Native.Nat.{ℕ}
-use mathlib.Core.Path.{_≡_, refl, sym, ap, _∙_, subst}
-use mathlib.Core.Logic.{_↔_}
-use mathlib.Core.List.{List}
-use lib.ListN.{length, take, drop}
-use lib.Seq.{take-at}
-use Rattle.tables.specs.Document.{Document}
-use Rattle.tables.specs.Pattern.{Shape, shapeOf}
-use Rattle.tables.specs.Refusal.{Passes}
-use Rattle.tables.specs.declared.Pattern.{Pattern}
+use Rattle.tables.proofs.Kit.{ℕ, _≡_, refl, sym, ap, _∙_, subst, _↔_, List, length, take, drop, take-at}
+use Rattle.tables.specs.{Document.Document, Pattern.{Shape, shapeOf}, Refusal.Passes, declared.Pattern.Pattern, declared.Counted.Counted}
 use Rattle.tables.specs.declared.Checked.the-variants as checked
-use Rattle.tables.specs.declared.Counted.{Counted}
 use Rattle.tables.specs.declared.Counted.the-variants as counted
 use Rattle.tables.proofs.Refusals.{refuses-not-passes}
 use Rattle.placing.specs.Answer.{Answer, Started, Begins, In, Lists, StartList}
 use Rattle.placing.proofs.Listing.{lists-unique, lists-iff}
 use Rattle.answers.specs.Answers.{Found, HasRoom, answerChecks, startedChecks, FindsAnswers, FindsStarted}
 use Rattle.answers.proofs.AnswerList.{started-here}
-use Rattle.joining.specs.Join.{Joinable, Joins}
-use Rattle.joining.specs.declared.JoinAnswer.{JoinAnswer}
+use Rattle.joining.specs.{Join.{Joinable, Joins}, declared.JoinAnswer.JoinAnswer}
 use Rattle.joining.proofs.Called.{called-accepts, called-answers, called-valid}
 
 -- the front of the list that a call leaves is what it found

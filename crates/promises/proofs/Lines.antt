@@ -1,12 +1,7 @@
 -- The lines of lists that `ask` prints can be read back: two texts that begin with such a line, of one word, and are equal begin with the line of one list.
 -- Assumes nothing.
-use Prim.Native.Nat.{ℕ, zero, suc, _+_, _/_, _%_, _<_}
-use mathlib.Core.Path.{_≡_, refl, sym, ap, ap₂, _∙_, subst}
-use mathlib.Core.List.{List, [], _∷_, _++_, append-assoc, append-nil}
-use native.Mathlib.Omega.{arith}
-use native.Mathlib.Decide.{decLt}
-use lib.ListN.{length, getD, drop}
-use lib.Seq.{ext-getD}
+use Rattle.tables.proofs.Kit.{ℕ, zero, suc, _+_, _/_, _%_, _<_, _≡_, refl, sym, ap, ap₂, _∙_, subst}
+use Rattle.tables.proofs.Kit.{List, [], _∷_, _++_, append-assoc, append-nil, arith, decLt, length, getD, drop, ext-getD}
 use Rattle.tables.specs.Column.{blocks}
 use Rattle.tables.proofs.Choice.{below-or-at}
 use Rattle.asking.specs.Text.{decimal, item, spaced, line, rewritingWord, noneLine, refusedLine}

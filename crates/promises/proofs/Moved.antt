@@ -1,26 +1,14 @@
 -- What fits the contract of a call on one pattern fits it for every table with the same steps. Assumes nothing.
-use Prim.Native.Nat.{ℕ, _+_}
-use mathlib.Core.Path.{_≡_, refl, sym, ap, _∙_}
-use mathlib.Core.Logic.{_↔_}
-use mathlib.Core.List.{List, _++_}
-use native.Mathlib.Omega.{arith}
-use lib.ListN.{length, drop}
-use Rattle.tables.specs.Checks.{patternRight, ChecksPattern}
-use Rattle.tables.specs.Document.{Document}
-use Rattle.tables.specs.Pattern.{shapeOf, ValidPattern}
-use Rattle.tables.specs.declared.Pattern.{Pattern}
-use Rattle.tables.specs.declared.Checked.{Checked}
-use Rattle.tables.specs.declared.Counted.{Counted}
-use Rattle.tables.proofs.Rules.{agree-sym}
-use Rattle.tables.proofs.Agreement.{valid-agree}
+use Rattle.tables.proofs.Kit.{ℕ, _+_, _≡_, refl, sym, ap, _∙_, _↔_, List, _++_, arith, length, drop}
+use Rattle.tables.specs.{Checks.{patternRight, ChecksPattern}, Document.Document, Pattern.{shapeOf, ValidPattern}}
+use Rattle.tables.specs.{declared.Pattern.Pattern, declared.Checked.Checked, declared.Counted.Counted}
+use Rattle.tables.proofs.{Rules.agree-sym, Agreement.valid-agree}
 use Rattle.placing.specs.Answer.{Begins, In}
 use Rattle.packets.specs.PatternPacket.{lengthOf, writeChecks, PacketPut, WritesPattern}
 use Rattle.packets.proofs.PatternTrip.{pattern-packet-agree}
 use Rattle.answers.specs.Answers.{answerChecks, startedChecks, FindsAnswers, FindsStarted}
 use Rattle.promises.specs.SameSteps.{SameSteps}
-use Rattle.promises.proofs.Agreeing.{same-agree, alike, decided-alike, counted-alike}
-use Rattle.promises.proofs.Agreeing.{reaches-alike, begins-alike, fits-alike}
-use Rattle.promises.proofs.Starting.{found-alike}
+use Rattle.promises.proofs.{Agreeing.{same-agree, alike, decided-alike, counted-alike, reaches-alike, begins-alike, fits-alike}, Starting.found-alike}
 
 -- the rules hold for both
 pub valid-alike : {p q : Pattern} → SameSteps p q → ValidPattern p ↔ ValidPattern q

@@ -1,26 +1,13 @@
 -- What fits the contract of a call on two patterns fits it for all tables with the same steps. Assumes nothing.
-use Prim.Native.Nat.{ℕ, _+_}
-use mathlib.Core.Path.{_≡_, refl, sym, ap, _∙_, subst}
-use mathlib.Core.List.{List, _++_}
-use native.Mathlib.Omega.{arith}
-use lib.ListN.{length, drop}
-use Rattle.tables.specs.Column.{nodeNo, stepArray}
-use Rattle.tables.specs.Pattern.{shapeOf, zeroPattern, ValidPattern}
-use Rattle.tables.specs.declared.Pattern.{Pattern}
-use Rattle.tables.specs.declared.StepNo.{StepNo}
+use Rattle.tables.proofs.Kit.{ℕ, _+_, _≡_, refl, sym, ap, _∙_, subst, List, _++_, arith, length, drop}
+use Rattle.tables.specs.{Column.{nodeNo, stepArray}, Pattern.{shapeOf, zeroPattern, ValidPattern}, declared.Pattern.Pattern, declared.StepNo.StepNo}
 use Rattle.tables.proofs.Rules.{agree-sym}
-use Rattle.containment.specs.Mapping.{Equal}
-use Rattle.containment.specs.Witness.{witnessSize}
-use Rattle.containment.specs.Containment.{containmentChecks, AnswersContainment}
-use Rattle.containment.specs.Equality.{pairChecks, DecidesEquality}
-use Rattle.containment.specs.declared.Containment.{Containment}
+use Rattle.containment.specs.{Mapping.Equal, Witness.witnessSize, Containment.{containmentChecks, AnswersContainment}}
+use Rattle.containment.specs.{Equality.{pairChecks, DecidesEquality}, declared.Containment.Containment, declared.Equality.Equality}
 use Rattle.containment.specs.declared.Containment.the-variants as containment
-use Rattle.containment.specs.declared.Equality.{Equality}
 use Rattle.containment.specs.declared.Equality.the-variants as equality
-use Rattle.joining.specs.Join.{joinOf, joinChecks, Joins}
-use Rattle.joining.specs.declared.JoinAnswer.{JoinAnswer}
-use Rattle.rewriting.specs.Rewriting.{Serves, rewritingChecks, AnswersRewriting}
-use Rattle.rewriting.specs.declared.Rewriting.{Rewriting}
+use Rattle.joining.specs.{Join.{joinOf, joinChecks, Joins}, declared.JoinAnswer.JoinAnswer}
+use Rattle.rewriting.specs.{Rewriting.{Serves, rewritingChecks, AnswersRewriting}, declared.Rewriting.Rewriting}
 use Rattle.rewriting.specs.declared.Rewriting.the-variants as rewriting
 use Rattle.promises.specs.SameSteps.{SameSteps}
 use Rattle.promises.proofs.Agreeing.{same-agree, same-sym, SameChecks, alike, passes-alike, refuses-alike, decided-alike, answer-alike}

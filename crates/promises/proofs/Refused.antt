@@ -1,31 +1,17 @@
 -- A refusal changes no list or buffer that was lent, and the pattern or the mapping beside it is zero: one theorem for each call. Assumes nothing.
-use Prim.Native.Nat.{ℕ}
-use mathlib.Core.Path.{_≡_, subst}
-use mathlib.Core.List.{List}
-use Rattle.tables.specs.Column.{stepArray}
-use Rattle.tables.specs.Document.{Document}
-use Rattle.tables.specs.Column.{stepArray}
-use Rattle.tables.specs.Pattern.{zeroPattern}
-use Rattle.tables.specs.Refusal.{Check, Decided}
-use Rattle.tables.specs.declared.Pattern.{Pattern}
-use Rattle.tables.specs.declared.Refusal.{Refusal}
-use Rattle.tables.specs.declared.Checked.{Checked}
+use Rattle.tables.proofs.Kit.{ℕ, _≡_, subst, List}
+use Rattle.tables.specs.{Column.stepArray, Document.Document, Pattern.zeroPattern, Refusal.{Check, Decided}, declared.Pattern.Pattern}
+use Rattle.tables.specs.{declared.Refusal.Refusal, declared.Checked.Checked, declared.Counted.the-variants.Refused}
 use Rattle.tables.specs.declared.Checked.the-variants as checked
-use Rattle.tables.specs.declared.Counted.the-variants.{Refused}
 use Rattle.packets.specs.PatternPacket.{packetPattern, patternChecks, ReadsPattern, WritesPattern}
-use Rattle.packets.specs.DocumentPacket.{ReadsNodes, ReadsDocument, WritesDocument}
-use Rattle.packets.specs.declared.PatternRead.{PatternRead}
+use Rattle.packets.specs.{DocumentPacket.{ReadsNodes, ReadsDocument, WritesDocument}, declared.PatternRead.PatternRead}
 use Rattle.answers.specs.Answers.{FindsAnswers, FindsStarted}
 use Rattle.containment.specs.Containment.{AnswersContainment, DecidesContainment}
-use Rattle.containment.specs.declared.Containment.{Containment}
+use Rattle.containment.specs.{declared.Containment.Containment, declared.ContainmentAnswer.ContainmentAnswer}
 use Rattle.containment.specs.declared.Containment.the-variants as containment
-use Rattle.containment.specs.declared.ContainmentAnswer.{ContainmentAnswer}
-use Rattle.joining.specs.Join.{joinOf, joinChecks, Joins}
-use Rattle.joining.specs.declared.JoinAnswer.{JoinAnswer}
-use Rattle.rewriting.specs.Rewriting.{AnswersRewriting, Rewrites}
-use Rattle.rewriting.specs.declared.Rewriting.{Rewriting}
+use Rattle.joining.specs.{Join.{joinOf, joinChecks, Joins}, declared.JoinAnswer.JoinAnswer}
+use Rattle.rewriting.specs.{Rewriting.{AnswersRewriting, Rewrites}, declared.Rewriting.Rewriting, declared.RewritingAnswer.RewritingAnswer}
 use Rattle.rewriting.specs.declared.Rewriting.the-variants as rewriting
-use Rattle.rewriting.specs.declared.RewritingAnswer.{RewritingAnswer}
 use Rattle.asking.specs.Replies.{ReplyOf}
 
 -- writing a pattern packet: the buffer is as it was

@@ -1,19 +1,13 @@
 -- The rewriting call hands a compensation over exactly where some joinable one gives the query's answers on every document; the one handed over does, and is
 -- contained in every other that does. Assumes nothing.
-use Prim.Native.Nat.{ℕ}
-use mathlib.Core.Path.{_≡_, refl, subst}
-use mathlib.Core.Logic.{_↔_}
-use native.Mathlib.Omega.{arith}
-use Rattle.tables.specs.Pattern.{shapeOf}
-use Rattle.tables.specs.Refusal.{Passes}
-use Rattle.tables.specs.declared.Pattern.{Pattern}
+use Rattle.tables.proofs.Kit.{ℕ, _≡_, refl, subst, _↔_, arith}
+use Rattle.tables.specs.{Pattern.shapeOf, Refusal.Passes, declared.Pattern.Pattern}
 use Rattle.tables.proofs.Refusals.{refuses-not-passes}
 use Rattle.containment.specs.Mapping.{Contained}
 use Rattle.joining.proofs.Started.{join-answers}
 use Rattle.rewriting.specs.Rewriting.{Serves, rewritingChecks, AnswersRewriting, Rewrites}
-use Rattle.rewriting.specs.declared.Rewriting.{Rewriting}
+use Rattle.rewriting.specs.{declared.Rewriting.Rewriting, declared.RewritingAnswer.RewritingAnswer}
 use Rattle.rewriting.specs.declared.Rewriting.the-variants as rewriting
-use Rattle.rewriting.specs.declared.RewritingAnswer.{RewritingAnswer}
 use Rattle.rewriting.proofs.Rewritten.{rewriting-exact, candidate-narrowest}
 use Rattle.promises.specs.Gives.{Gives}
 

@@ -1,18 +1,11 @@
 -- A start node with another label than step 0 adds nothing: the started call answers as if such nodes were not in its start list. Assumes nothing.
-use Prim.Native.Nat.{ℕ, _+_, _*_, _<_}
-use mathlib.Core.Path.{_≡_, refl, sym, subst}
-use mathlib.Core.List.{List}
-use lib.ListN.{getD}
-use Rattle.tables.specs.Document.{Document, nodeCount, nodesOf}
-use Rattle.tables.specs.Pattern.{Shape, shapeOf}
-use Rattle.tables.specs.declared.Pattern.{Pattern}
+use Rattle.tables.proofs.Kit.{ℕ, _+_, _*_, _<_, _≡_, refl, sym, subst, List, getD}
+use Rattle.tables.specs.{Document.{Document, nodeCount, nodesOf}, Pattern.{Shape, shapeOf}, declared.Pattern.Pattern}
 use Rattle.tables.specs.declared.Counted.the-variants as counted
 use Rattle.tables.proofs.Marks.{marks-to}
-use Rattle.placing.specs.Placement.{LabelFits, Reaches}
-use Rattle.placing.specs.Answer.{In, Lists, StartList}
+use Rattle.placing.specs.{Placement.{LabelFits, Reaches}, Answer.{In, Lists, StartList}}
 use Rattle.placing.proofs.Listing.{lists-iff}
-use Rattle.answers.specs.Working.{FitsAt, PlacedAt}
-use Rattle.answers.specs.Answers.{Found, FindsStarted}
+use Rattle.answers.specs.{Working.{FitsAt, PlacedAt}, Answers.{Found, FindsStarted}}
 
 -- what is found depends on the pattern's placements alone
 pub found-alike : {A B : Shape} {d : Document} {First Other : ℕ → Type 0} → A .output ≡ B .output → ((i s : ℕ) → FitsAt A d i s → FitsAt B d i s)

@@ -1,32 +1,21 @@
 -- Entries past the step count are not read: two tables with the same steps get the same result from every call that takes a pattern, since what fits the
 -- call's contract for the one fits it for the other, and one result fits. Assumes nothing.
-use Prim.Native.Nat.{ℕ}
-use mathlib.Core.Path.{_≡_}
-use mathlib.Core.List.{List}
-use Rattle.tables.specs.Checks.{patternRight, ChecksPattern}
-use Rattle.tables.specs.Document.{Document}
-use Rattle.tables.specs.declared.Pattern.{Pattern}
-use Rattle.tables.specs.declared.Checked.{Checked}
-use Rattle.tables.specs.declared.Counted.{Counted}
+use Rattle.tables.proofs.Kit.{ℕ, _≡_, List}
+use Rattle.tables.specs.{Checks.{patternRight, ChecksPattern}, Document.Document, declared.Pattern.Pattern, declared.Checked.Checked, declared.Counted.Counted}
 use Rattle.tables.proofs.Refusals.{decided-unique}
 use Rattle.packets.specs.PatternPacket.{WritesPattern}
 use Rattle.packets.proofs.PatternTrip.{writes-pattern-unique}
 use Rattle.answers.specs.Answers.{FindsAnswers, FindsStarted}
 use Rattle.answers.proofs.Unique.{finds-answers-unique, finds-started-unique}
-use Rattle.containment.specs.Containment.{DecidesContainment}
-use Rattle.containment.specs.Equality.{DecidesEquality}
-use Rattle.containment.specs.declared.ContainmentAnswer.{ContainmentAnswer}
-use Rattle.containment.specs.declared.Equality.{Equality}
+use Rattle.containment.specs.{Containment.DecidesContainment, Equality.DecidesEquality}
+use Rattle.containment.specs.{declared.ContainmentAnswer.ContainmentAnswer, declared.Equality.Equality}
 use Rattle.containment.proofs.Unique.{containment-unique, equality-unique}
-use Rattle.joining.specs.Join.{Joins}
-use Rattle.joining.specs.declared.JoinAnswer.{JoinAnswer}
+use Rattle.joining.specs.{Join.Joins, declared.JoinAnswer.JoinAnswer}
 use Rattle.joining.proofs.Unique.{joins-unique}
-use Rattle.rewriting.specs.Rewriting.{Rewrites}
-use Rattle.rewriting.specs.declared.RewritingAnswer.{RewritingAnswer}
+use Rattle.rewriting.specs.{Rewriting.Rewrites, declared.RewritingAnswer.RewritingAnswer}
 use Rattle.rewriting.proofs.Unique.{rewrites-unique}
 use Rattle.promises.specs.SameSteps.{SameSteps}
-use Rattle.promises.proofs.Moved.{check-fit, write-fit, answers-fit, started-fit}
-use Rattle.promises.proofs.MovedPairs.{contains-fit, equal-fit, join-fit, rewrite-fit}
+use Rattle.promises.proofs.{Moved.{check-fit, write-fit, answers-fit, started-fit}, MovedPairs.{contains-fit, equal-fit, join-fit, rewrite-fit}}
 
 module _ {p q : Pattern} (e : SameSteps p q) where
   -- the check of a pattern

@@ -1,11 +1,6 @@
 -- Sending a cut into its query, and what is sent into the query at or below the cut's step into the cut. Assumes nothing.
-use Prim.Native.Nat.{ℕ, zero, suc, _+_, _-_, _≤_, _<_}
-use mathlib.Core.Path.{_≡_, refl, sym, ap, _∙_, subst}
-use mathlib.Core.Logic.{inl, inr, ⊎-elim}
-use native.Mathlib.Omega.{arith}
-use native.Mathlib.Nat.{eq-zero-or-pos}
-use Rattle.tables.specs.Tree.{Child, child, From}
-use Rattle.tables.specs.Pattern.{Shape, rowsOf}
+use Rattle.tables.proofs.Kit.{ℕ, zero, suc, _+_, _-_, _≤_, _<_, _≡_, refl, sym, ap, _∙_, subst, inl, inr, ⊎-elim, arith, eq-zero-or-pos}
+use Rattle.tables.specs.{Tree.{Child, child, From}, Pattern.{Shape, rowsOf}}
 use Rattle.tables.proofs.Trees.{Ordered, below-lt, below-root, from-le}
 use Rattle.placing.specs.Placement.{Takes, Goes, Sends}
 use Rattle.placing.proofs.Compose.{below-sends}

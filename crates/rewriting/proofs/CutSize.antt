@@ -1,13 +1,7 @@
 -- The steps at or below c, counted from c on: the count ends at the first later step that hangs before c. Assumes nothing.
-use Prim.Native.Nat.{ℕ, _+_, _-_, _≤_, _<_}
-use mathlib.Core.Path.{refl, subst}
-use mathlib.Core.Logic.{inl, inr, ⊎-elim}
-use native.Mathlib.Omega.{arith}
-use native.Mathlib.Decide.{decLt}
+use Rattle.tables.proofs.Kit.{ℕ, _+_, _-_, _≤_, _<_, refl, subst, inl, inr, ⊎-elim, arith, decLt}
 use Rattle.tables.specs.Tree.{Tree, Child, From}
-use Rattle.tables.proofs.Choice.{below-or-at}
-use Rattle.tables.proofs.Depth.{run}
-use Rattle.tables.proofs.Trees.{Ordered, parent-lt, below-up, from-child, from-here, from-le}
+use Rattle.tables.proofs.{Choice.below-or-at, Depth.run, Trees.{Ordered, parent-lt, below-up, from-child, from-here, from-le}}
 
 -- the rows from c up to u, u left out, are c or below it
 pub record Taken (T : Tree) (c u : ℕ) : Type 0 where

@@ -1,16 +1,9 @@
 -- The cut at a step of the main path, as its table is written. Assumes nothing.
-use Prim.Native.Nat.{ℕ, _+_, _≤_, _<_}
-use mathlib.Core.Path.{_≡_}
-use native.Mathlib.Omega.{arith}
-use native.Mathlib.Decide.{decLt}
-use Rattle.tables.specs.Tree.{From}
-use Rattle.tables.specs.Pattern.{shapeOf, ValidPattern, ValidShape}
-use Rattle.tables.specs.declared.Pattern.{Pattern}
-use Rattle.tables.proofs.Rules.{shape-ordered}
-use Rattle.tables.proofs.Trees.{from-le}
+use Rattle.tables.proofs.Kit.{ℕ, _+_, _≤_, _<_, _≡_, arith, decLt}
+use Rattle.tables.specs.{Tree.From, Pattern.{shapeOf, ValidPattern, ValidShape}, declared.Pattern.Pattern}
+use Rattle.tables.proofs.{Rules.shape-ordered, Trees.from-le}
 use Rattle.rewriting.specs.Candidate.{Cut}
-use Rattle.rewriting.proofs.Cuts.{cutShape, cut-shape, cut-valid, cut-small}
-use Rattle.rewriting.proofs.CutSize.{CutSteps}
+use Rattle.rewriting.proofs.{Cuts.{cutShape, cut-shape, cut-valid, cut-small}, CutSize.CutSteps}
 
 module _ (q : Pattern) (v : ValidPattern q) (c : ℕ) (w : From (shapeOf q .tree) c (shapeOf q .output)) where
   -- the step is one of the pattern's

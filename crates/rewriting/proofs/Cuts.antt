@@ -1,18 +1,9 @@
 -- The cut of a query at a step of its main path: it exists, it obeys the rules, and no second fits. Assumes nothing.
-use Prim.Native.Nat.{ℕ, zero, suc, _+_, _-_, _≤_, _<_}
-use mathlib.Core.Path.{_≡_, refl, sym, ap, _∙_, subst, subst₂}
-use mathlib.Core.Logic.{_⊎_, inl, inr, ⊎-elim}
-use mathlib.Core.Bool.{Bool, true, false, cond}
-use native.Mathlib.Omega.{arith}
-use native.Mathlib.Decide.{decLt, ℕ-discrete}
-use Rattle.tables.specs.Tree.{Tree, Child, Below, child, under, From, IsLabel}
-use Rattle.tables.specs.Pattern.{Shape, StepRule, ValidShape}
-use Rattle.tables.proofs.Choice.{below-or-at}
-use Rattle.tables.proofs.TreeTests.{isFrom, tells-from}
-use Rattle.tables.proofs.Depth.{run}
-use Rattle.tables.proofs.Rules.{Agree, shape-ordered}
-use Rattle.tables.proofs.Tests.{Tells}
-use Rattle.tables.proofs.Trees.{Ordered, below-lt, below-up, from-child, from-below, from-here, from-le}
+use Rattle.tables.proofs.Kit.{ℕ, zero, suc, _+_, _-_, _≤_, _<_, _≡_, refl, sym, ap, _∙_, subst, subst₂}
+use Rattle.tables.proofs.Kit.{_⊎_, inl, inr, ⊎-elim, Bool, true, false, cond, arith, decLt, ℕ-discrete}
+use Rattle.tables.specs.{Tree.{Tree, Child, Below, child, under, From, IsLabel}, Pattern.{Shape, StepRule, ValidShape}}
+use Rattle.tables.proofs.{Choice.below-or-at, TreeTests.{isFrom, tells-from}, Depth.run, Rules.{Agree, shape-ordered}}
+use Rattle.tables.proofs.{Tests.Tells, Trees.{Ordered, below-lt, below-up, from-child, from-below, from-here, from-le}}
 use Rattle.rewriting.specs.Candidate.{Cut}
 
 -- how many of the numbers below n pass a test

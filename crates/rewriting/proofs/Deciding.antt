@@ -1,21 +1,13 @@
 -- A test that runs tells whether the candidate serves, and so whether anything does. Assumes nothing.
-use Prim.Native.Nat.{suc, _≤_}
-use mathlib.Core.Path.{subst}
-use mathlib.Core.Bool.{Bool, _&&_}
-use native.Mathlib.Omega.{arith}
-use lib.Dec.{T, ltb, eqb}
-use lib.ListN.{length}
-use Rattle.tables.specs.Pattern.{shapeOf, patternOf, ValidPattern}
-use Rattle.tables.specs.declared.Pattern.{Pattern}
+use Rattle.tables.proofs.Kit.{suc, _≤_, subst, Bool, _&&_, arith, T, ltb, eqb, length}
+use Rattle.tables.specs.{Pattern.{shapeOf, patternOf, ValidPattern}, declared.Pattern.Pattern}
 use Rattle.tables.proofs.Tests.{Tells, tells-lt, tells-eq, tells-and, tells-iff, tells-self}
 use Rattle.containment.specs.Mapping.{Equal}
 use Rattle.containment.proofs.Deciding.{mapsInto, tells-contained}
 use Rattle.joining.specs.Join.{joinOf, Joinable}
 use Rattle.joining.proofs.Order.{join-valid}
-use Rattle.rewriting.specs.Candidate.{mainPath, cutStep, Candidate}
-use Rattle.rewriting.specs.Rewriting.{Serves}
-use Rattle.rewriting.proofs.Cuts.{cutShape}
-use Rattle.rewriting.proofs.Rewritten.{candidate-joinable, candidate-exists, candidate-unique}
+use Rattle.rewriting.specs.{Candidate.{mainPath, cutStep, Candidate}, Rewriting.Serves}
+use Rattle.rewriting.proofs.{Cuts.cutShape, Rewritten.{candidate-joinable, candidate-exists, candidate-unique}}
 
 -- the candidate's table, where there is a candidate
 unfoldable pub candidateOf : Pattern → Pattern → Pattern

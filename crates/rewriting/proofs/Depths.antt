@@ -1,14 +1,8 @@
 -- What mappings do to depths: a step goes no higher than it stood, and between patterns that map into each other a main path step keeps its depth, its label
 -- and its axis. Assumes nothing.
-use Prim.Native.Nat.{ℕ, _+_, _≤_, _<_}
-use mathlib.Core.Path.{_≡_, refl, sym, ap, _∙_, subst}
-use mathlib.Core.Logic.{inl, inr, ⊎-elim}
-use native.Mathlib.Omega.{arith}
-use native.Mathlib.Nat.{eq-zero-or-pos}
-use Rattle.tables.specs.Tree.{Below, child, under, From}
-use Rattle.tables.specs.Pattern.{Shape, rowsOf}
-use Rattle.tables.proofs.Depth.{depth, depth-zero, depth-child, depth-below, depth-unique}
-use Rattle.tables.proofs.Trees.{Ordered, from-root}
+use Rattle.tables.proofs.Kit.{ℕ, _+_, _≤_, _<_, _≡_, refl, sym, ap, _∙_, subst, inl, inr, ⊎-elim, arith, eq-zero-or-pos}
+use Rattle.tables.specs.{Tree.{Below, child, under, From}, Pattern.{Shape, rowsOf}}
+use Rattle.tables.proofs.{Depth.{depth, depth-zero, depth-child, depth-below, depth-unique}, Trees.{Ordered, from-root}}
 use Rattle.placing.specs.Placement.{Goes, Sends}
 use Rattle.placing.proofs.Compose.{below-sends}
 use Rattle.containment.specs.Mapping.{Maps}

@@ -1,14 +1,7 @@
 -- A climb from the output step along the main path. Assumes nothing.
-use Prim.Native.Nat.{ℕ, _+_, _≤_, _<_}
-use mathlib.Core.Path.{_≡_, refl, ap}
-use mathlib.Core.Logic.{inl, inr, ⊎-elim}
-use native.Mathlib.Omega.{arith}
-use native.Mathlib.Nat.{eq-zero-or-pos}
-use Rattle.tables.specs.Tree.{Child, child, From}
-use Rattle.tables.specs.Pattern.{Shape, ValidShape}
-use Rattle.tables.proofs.Depth.{depth, depth-zero, depth-child}
-use Rattle.tables.proofs.Rules.{shape-ordered}
-use Rattle.tables.proofs.Trees.{parent-lt, from-trans}
+use Rattle.tables.proofs.Kit.{ℕ, _+_, _≤_, _<_, _≡_, refl, ap, inl, inr, ⊎-elim, arith, eq-zero-or-pos}
+use Rattle.tables.specs.{Tree.{Child, child, From}, Pattern.{Shape, ValidShape}}
+use Rattle.tables.proofs.{Depth.{depth, depth-zero, depth-child}, Rules.shape-ordered, Trees.{parent-lt, from-trans}}
 
 -- s is the step of the main path that is k steps above the output step
 pub record Climbed (A : Shape) (s k : ℕ) : Type 0 where

@@ -1,17 +1,9 @@
 -- The main path has a step for each depth down to the output's, and every step from which the output can be reached is one of them. Assumes nothing.
-use Prim.Native.Nat.{ℕ, zero, suc, _+_, _-_, _≤_, _<_}
-use mathlib.Core.Path.{_≡_, refl, sym, ap, _∙_, subst}
-use mathlib.Core.Logic.{inl, inr}
-use mathlib.Core.List.{List, [], _∷_, _++_}
-use native.Mathlib.Omega.{arith}
-use lib.ListN.{length, getD, length-append, List·getD-append}
-use lib.Seq.{getD-append-add}
-use Rattle.tables.specs.Tree.{Tree, Child, From}
-use Rattle.tables.proofs.Choice.{below-or-at}
-use Rattle.tables.proofs.Trees.{Ordered, parent-lt, from-child}
-use Rattle.tables.proofs.Depth.{depth, depth-zero, depth-child, depth-le, depth-unique}
-use Rattle.tables.specs.Pattern.{Shape, ValidShape}
-use Rattle.tables.proofs.Rules.{shape-ordered}
+use Rattle.tables.proofs.Kit.{ℕ, zero, suc, _+_, _-_, _≤_, _<_, _≡_, refl, sym, ap, _∙_, subst, inl, inr}
+use Rattle.tables.proofs.Kit.{List, [], _∷_, _++_, arith, length, getD, length-append, List·getD-append, getD-append-add}
+use Rattle.tables.specs.{Tree.{Tree, Child, From}, Pattern.{Shape, ValidShape}}
+use Rattle.tables.proofs.{Choice.below-or-at, Trees.{Ordered, parent-lt, from-child}}
+use Rattle.tables.proofs.{Depth.{depth, depth-zero, depth-child, depth-le, depth-unique}, Rules.shape-ordered}
 use Rattle.rewriting.specs.Candidate.{pathTo, mainPath, cutStep}
 
 module _ {T : Tree} (v : Ordered T) where

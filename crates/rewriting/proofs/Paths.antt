@@ -1,27 +1,13 @@
 -- Where something serves, the main paths of the query and of the view have the same labels and axes, as far as the view's goes. Assumes nothing.
-use Prim.Native.Nat.{ℕ, _≤_, _<_}
-use mathlib.Core.Path.{_≡_, refl, sym, ap, _∙_, subst}
-use mathlib.Core.Logic.{_⊎_, inl, inr, ⊎-elim}
-use native.Mathlib.Omega.{arith}
-use native.Mathlib.Nat.{eq-zero-or-pos}
-use lib.ListN.{length}
-use Rattle.tables.specs.Tree.{Child, child, From}
-use Rattle.tables.specs.Pattern.{Shape, shapeOf, ValidShape, ValidPattern}
-use Rattle.tables.specs.declared.Pattern.{Pattern}
-use Rattle.tables.proofs.Depth.{depth, depth-zero, depth-child}
-use Rattle.tables.proofs.Rules.{shape-ordered}
-use Rattle.tables.proofs.Trees.{parent-lt, from-le, from-trans}
+use Rattle.tables.proofs.Kit.{ℕ, _≤_, _<_, _≡_, refl, sym, ap, _∙_, subst, _⊎_, inl, inr, ⊎-elim, arith, eq-zero-or-pos, length}
+use Rattle.tables.specs.{Tree.{Child, child, From}, Pattern.{Shape, shapeOf, ValidShape, ValidPattern}, declared.Pattern.Pattern}
+use Rattle.tables.proofs.{Depth.{depth, depth-zero, depth-child}, Rules.shape-ordered, Trees.{parent-lt, from-le, from-trans}}
 use Rattle.joining.specs.Join.{renumber, added, joinOf}
-use Rattle.joining.proofs.Parts.{renumber-low}
-use Rattle.joining.proofs.Joined.{Joined, Pair, pair-of, pair-joined}
-use Rattle.joining.proofs.Order.{view-from, pair-valid}
+use Rattle.joining.proofs.{Parts.renumber-low, Joined.{Joined, Pair, pair-of, pair-joined}, Order.{view-from, pair-valid}}
 use Rattle.containment.specs.Mapping.{Maps}
 use Rattle.containment.proofs.Contained.{contained-iff}
-use Rattle.rewriting.specs.Candidate.{mainPath, cutStep}
-use Rattle.rewriting.specs.Rewriting.{Serves}
-use Rattle.rewriting.proofs.MainPath.{cut-on-path}
-use Rattle.rewriting.proofs.Depths.{same-labels, child-there}
-use Rattle.rewriting.proofs.Serving.{view-depth-to, joint}
+use Rattle.rewriting.specs.{Candidate.{mainPath, cutStep}, Rewriting.Serves}
+use Rattle.rewriting.proofs.{MainPath.cut-on-path, Depths.{same-labels, child-there}, Serving.{view-depth-to, joint}}
 
 -- s and t are steps of the two main paths, as deep as each other
 pub record Level (Q U : Shape) (s t : ℕ) : Type 0 where

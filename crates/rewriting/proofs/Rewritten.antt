@@ -1,26 +1,14 @@
 -- Rewriting is complete: where any joinable compensation serves, the candidate exists, obeys the rules, can be joined and serves, and it is contained in every
 -- compensation that serves. There is one candidate. Assumes nothing.
-use Prim.Native.Nat.{ℕ, _+_, _-_, _≤_, _<_}
-use mathlib.Core.Path.{_≡_, refl, sym, ap, _∙_, subst}
-use mathlib.Core.Logic.{_↔_}
-use native.Mathlib.Omega.{arith}
-use lib.ListN.{length}
-use Rattle.tables.specs.Tree.{From}
-use Rattle.tables.specs.Pattern.{Shape, shapeOf, patternOf, ValidPattern, ValidShape, Clean}
-use Rattle.tables.specs.declared.Pattern.{Pattern}
-use Rattle.tables.proofs.Depth.{depth}
-use Rattle.tables.proofs.Rules.{pattern-of-shape, pattern-of-agree, pattern-of-clean, agree-sym, shape-ordered}
-use Rattle.tables.proofs.Trees.{from-le}
+use Rattle.tables.proofs.Kit.{ℕ, _+_, _-_, _≤_, _<_, _≡_, refl, sym, ap, _∙_, subst, _↔_, arith, length}
+use Rattle.tables.specs.{Tree.From, Pattern.{Shape, shapeOf, patternOf, ValidPattern, ValidShape, Clean}, declared.Pattern.Pattern}
+use Rattle.tables.proofs.{Depth.depth, Rules.{pattern-of-shape, pattern-of-agree, pattern-of-clean, agree-sym, shape-ordered}, Trees.from-le}
 use Rattle.containment.specs.Mapping.{Maps, Contained}
-use Rattle.containment.proofs.Contained.{contained-iff}
-use Rattle.containment.proofs.Maps.{maps-sound}
+use Rattle.containment.proofs.{Contained.contained-iff, Maps.maps-sound}
 use Rattle.joining.specs.Join.{added, joinOf, Joinable}
-use Rattle.joining.proofs.Joined.{Joined, Pair, pair-of, pair-joinable, pair-joined}
-use Rattle.joining.proofs.Order.{pair-valid}
-use Rattle.rewriting.specs.Candidate.{mainPath, cutStep, Cut, Candidate}
-use Rattle.rewriting.specs.Rewriting.{Serves}
-use Rattle.rewriting.proofs.Cuts.{cutShape, cut-shape, cut-valid, cut-unique, cut-agree, cut-some, cut-small}
-use Rattle.rewriting.proofs.MainPath.{cut-on-path, cut-step-is}
+use Rattle.joining.proofs.{Joined.{Joined, Pair, pair-of, pair-joinable, pair-joined}, Order.pair-valid}
+use Rattle.rewriting.specs.{Candidate.{mainPath, cutStep, Cut, Candidate}, Rewriting.Serves}
+use Rattle.rewriting.proofs.{Cuts.{cutShape, cut-shape, cut-valid, cut-unique, cut-agree, cut-some, cut-small}, MainPath.{cut-on-path, cut-step-is}}
 use Rattle.rewriting.proofs.Serving.{EqualJoin, CutAt, reaches, same-label, join-to-query, query-to-join, narrowest}
 
 module _ (Q U : Pattern) (vq : ValidPattern Q) (vu : ValidPattern U) where

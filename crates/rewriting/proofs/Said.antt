@@ -1,10 +1,7 @@
 -- What rewriting says beside the zero pattern. Assumes nothing.
 use mathlib.Core.Path.{_≡_, sym, subst₂}
-use Rattle.tables.specs.Pattern.{zeroPattern}
-use Rattle.tables.specs.declared.Pattern.{Pattern}
-use Rattle.rewriting.specs.Rewriting.{AnswersRewriting, Rewrites}
-use Rattle.rewriting.specs.declared.Rewriting.{Rewriting}
-use Rattle.rewriting.specs.declared.RewritingAnswer.{RewritingAnswer}
+use Rattle.tables.specs.{Pattern.zeroPattern, declared.Pattern.Pattern}
+use Rattle.rewriting.specs.{Rewriting.{AnswersRewriting, Rewrites}, declared.Rewriting.Rewriting, declared.RewritingAnswer.RewritingAnswer}
 
 -- an answer with the zero pattern beside it
 pub said : (Q U : Pattern) (a : Rewriting) (r : RewritingAnswer) → (r .answer ≡ a) × (r .pattern ≡ zeroPattern) → AnswersRewriting Q U a zeroPattern

@@ -1,24 +1,15 @@
 -- If some compensation serves a query by a view, the cut of the query does, and it is contained in every such compensation. Assumes nothing.
-use Prim.Native.Nat.{ℕ, zero, suc, _+_, _-_, _≤_, _<_}
-use mathlib.Core.Path.{_≡_, refl, sym, ap, _∙_, subst, subst₂}
-use mathlib.Core.Logic.{⊎-elim}
-use native.Mathlib.Omega.{arith}
-use native.Mathlib.Nat.{eq-zero-or-pos}
-use Rattle.tables.specs.Tree.{Child, child, From}
-use Rattle.tables.specs.Pattern.{Shape, rowsOf}
-use Rattle.tables.proofs.Depth.{depth, depth-zero, depth-child, depth-unique}
-use Rattle.tables.proofs.Trees.{Ordered, below-lt, from-root, from-le}
+use Rattle.tables.proofs.Kit.{ℕ, zero, suc, _+_, _-_, _≤_, _<_, _≡_, refl, sym, ap, _∙_, subst, subst₂, ⊎-elim, arith, eq-zero-or-pos}
+use Rattle.tables.specs.{Tree.{Child, child, From}, Pattern.{Shape, rowsOf}}
+use Rattle.tables.proofs.{Depth.{depth, depth-zero, depth-child, depth-unique}, Trees.{Ordered, below-lt, from-root, from-le}}
 use Rattle.placing.proofs.Compose.{compose, identity}
 use Rattle.containment.specs.Mapping.{Maps}
 use Rattle.containment.proofs.Maps.{maps-compose}
 use Rattle.joining.specs.Join.{renumber}
-use Rattle.joining.proofs.Parts.{renumber-low, both, both-view, both-tail}
-use Rattle.joining.proofs.Joined.{Joined, view-child, renumber-zero, first-axis}
-use Rattle.joining.proofs.Glue.{split-view, split-tail, glue}
-use Rattle.joining.proofs.Order.{tail-from}
+use Rattle.joining.proofs.{Parts.{renumber-low, both, both-view, both-tail}, Joined.{Joined, view-child, renumber-zero, first-axis}}
+use Rattle.joining.proofs.{Glue.{split-view, split-tail, glue}, Order.tail-from}
 use Rattle.rewriting.specs.Candidate.{Cut}
-use Rattle.rewriting.proofs.Depths.{from-sends, keeps}
-use Rattle.rewriting.proofs.CutSends.{cut-into, cut-back}
+use Rattle.rewriting.proofs.{Depths.{from-sends, keeps}, CutSends.{cut-into, cut-back}}
 
 -- depths in a join
 module _ {U E J : Shape} {e : ℕ} (j : Joined U E J e) (lo : U .output < U .tree .size) (vu : Ordered (U .tree)) (vj : Ordered (J .tree)) where

@@ -3,9 +3,8 @@ use mathlib.Core.Path.{_≡_, refl, sym, ap, ap₂, _∙_}
 use Rattle.tables.specs.declared.Pattern.{Pattern}
 use Rattle.tables.proofs.Refusals.{refuses-not-passes, refuses-unique}
 use Rattle.rewriting.specs.Rewriting.{rewritingChecks, AnswersRewriting, Rewrites}
-use Rattle.rewriting.specs.declared.Rewriting.{Rewriting}
+use Rattle.rewriting.specs.{declared.Rewriting.Rewriting, declared.RewritingAnswer.RewritingAnswer}
 use Rattle.rewriting.specs.declared.Rewriting.the-variants as rewriting
-use Rattle.rewriting.specs.declared.RewritingAnswer.{RewritingAnswer}
 use Rattle.rewriting.proofs.Rewritten.{candidate-unique}
 
 answers-unique : (Q U : Pattern) (a b : Rewriting) (p q : Pattern) → AnswersRewriting Q U a p → AnswersRewriting Q U b q → (a ≡ b) × (p ≡ q)

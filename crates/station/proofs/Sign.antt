@@ -1,21 +1,12 @@
 -- What the sign of an entry's number tells C: 0 or more is an answer and no refusal, and every check holds; minus k is the refusal with number k, by the first
 -- check that fails, and everything that was lent is as it was. Assumes nothing.
-use Prim.Native.Nat.{ℕ, suc}
-use mathlib.Core.Path.{_≡_, refl, sym, ap, _∙_, subst}
-use mathlib.Core.List.{List, _++_}
-use lib.IntN.{ℤ, pos, negsuc, negℤ, natAbs, pos-ne-negsuc}
-use lib.ListN.{length, drop}
-use Rattle.tables.specs.Checks.{roomFor}
-use Rattle.tables.specs.Document.{Document}
-use Rattle.tables.specs.Pattern.{shapeOf}
-use Rattle.tables.specs.Refusal.{number, Check, Passes, Refuses, CountedBy}
-use Rattle.tables.specs.declared.Refusal.{Refusal}
+use Rattle.tables.proofs.Kit.{ℕ, suc, _≡_, refl, sym, ap, _∙_, subst, List, _++_, ℤ, pos, negsuc, negℤ, natAbs, pos-ne-negsuc, length, drop}
+use Rattle.tables.specs.{Checks.roomFor, Document.Document, Pattern.shapeOf, Refusal.{number, Check, Passes, Refuses, CountedBy}, declared.Refusal.Refusal}
 use Rattle.tables.specs.declared.Refusal.the-variants.{Version, Length, BadPattern, BadDocument, Room, Start, OtherLabel, TooLarge, NoLabel}
 use Rattle.tables.specs.declared.Counted.{Counted}
 use Rattle.tables.specs.declared.Counted.the-variants as counted
 use Rattle.halves.specs.Bytes.{unpacked}
-use Rattle.packets.specs.PatternPacket.{packetPattern, patternChecks, PacketPut}
-use Rattle.packets.specs.DocumentPacket.{nodesIn, packetDocument, documentChecks}
+use Rattle.packets.specs.{PatternPacket.{packetPattern, patternChecks, PacketPut}, DocumentPacket.{nodesIn, packetDocument, documentChecks}}
 use Rattle.placing.specs.Answer.{Begins, In}
 use Rattle.answers.specs.Answers.{Found, answerChecks, startedChecks}
 use Rattle.joining.specs.Join.{joinOf}

@@ -1,11 +1,5 @@
 -- A small count, and minus a small number, as an i64. Assumes nothing.
-use Prim.Native.Nat.{ℕ, zero, suc, _<_, _^_}
-use mathlib.Core.Path.{_≡_, _∙_, subst, sym, ap}
-use native.Mathlib.Omega.{arith}
-use lib.IntN.{ℤ, pos, negℤ, _-ℤ_, +ℤ-idl}
-use lib.Dec.{lit<}
-use mir.Syntax.{w64}
-use mir.Val.{SFits, toZ, ofZ, hbits}
+use Rattle.tables.proofs.Kit.{ℕ, zero, suc, _<_, _^_, _≡_, _∙_, subst, sym, ap, arith, ℤ, pos, negℤ, _-ℤ_, +ℤ-idl, lit<, w64, SFits, toZ, ofZ, hbits}
 use mir.Facts.{toZ-pos, toZ-ofZ}
 
 -- minus a small number is an i64

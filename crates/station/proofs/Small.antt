@@ -1,18 +1,11 @@
 -- Every count that an entry hands to C is small. Assumes nothing.
-use Prim.Native.Nat.{ℕ, zero, suc, _≤_, _<_}
-use mathlib.Core.List.{List, _++_}
-use native.Mathlib.Omega.{arith}
-use lib.ListN.{length}
-use Rattle.tables.specs.Checks.{roomFor}
-use Rattle.tables.specs.Document.{Document, nodeCount}
-use Rattle.tables.specs.Pattern.{Shape, shapeOf, patternOf, tableOf}
-use Rattle.tables.specs.Refusal.{Check, Passes}
-use Rattle.tables.specs.declared.Counted.{Counted}
+use Rattle.tables.proofs.Kit.{ℕ, zero, suc, _≤_, _<_, List, _++_, arith, length}
+use Rattle.tables.specs.{Checks.roomFor, Document.{Document, nodeCount}, Pattern.{Shape, shapeOf, patternOf, tableOf}}
+use Rattle.tables.specs.{Refusal.{Check, Passes}, declared.Counted.Counted}
 use Rattle.tables.specs.declared.Counted.the-variants as counted
 use Rattle.tables.proofs.Outcomes.{passes-front, passes-rest}
 use Rattle.halves.specs.Bytes.{unpacked}
-use Rattle.packets.specs.PatternPacket.{packetPattern, patternChecks, lengthOf}
-use Rattle.packets.specs.DocumentPacket.{packetDocument, documentRules, listsCheck}
+use Rattle.packets.specs.{PatternPacket.{packetPattern, patternChecks, lengthOf}, DocumentPacket.{packetDocument, documentRules, listsCheck}}
 use Rattle.packets.proofs.Views.{read-of, read-document-of, nodes-few}
 use Rattle.placing.specs.Answer.{Begins, In}
 use Rattle.placing.proofs.Listing.{answers-few}
@@ -21,8 +14,7 @@ use Rattle.joining.specs.Join.{joinOf, joinShape, joinChecks}
 use Rattle.joining.proofs.Joined.{pair-of}
 use Rattle.packet_answers.specs.Documents.{AnswersPut, nodesRoom, AnswersPackets, startCheck, StartsPackets}
 use Rattle.packet_lists.specs.Lists.{ReadsInto, ListAnswers, ListStarted}
-use Rattle.packet_patterns.specs.Contained.{ContainsPackets}
-use Rattle.packet_patterns.specs.Patterns.{JoinsPackets, RewritesPackets, CopiesPacket}
+use Rattle.packet_patterns.specs.{Contained.ContainsPackets, Patterns.{JoinsPackets, RewritesPackets, CopiesPacket}}
 use Rattle.station.specs.Code.{Small}
 
 -- a document has at most 2,048 nodes, so the counts are small

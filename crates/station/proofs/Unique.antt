@@ -1,16 +1,11 @@
 -- No second number and no second content of the room or of a list fits the statement of an entry. Assumes nothing.
-use Prim.Native.Nat.{ℕ}
-use mathlib.Core.Path.{_≡_, sym, ap, _∙_}
-use mathlib.Core.List.{List}
-use lib.IntN.{ℤ}
-use Rattle.tables.specs.Document.{Document}
-use Rattle.tables.specs.declared.Counted.{Counted}
+use Rattle.tables.proofs.Kit.{ℕ, _≡_, sym, ap, _∙_, List, ℤ}
+use Rattle.tables.specs.{Document.Document, declared.Counted.Counted}
 use Rattle.packet_answers.specs.Documents.{AnswersPackets, StartsPackets}
 use Rattle.packet_answers.proofs.Unique.{answers-packets-unique, starts-packets-unique}
 use Rattle.packet_lists.specs.Lists.{ReadsInto, ListAnswers, ListStarted}
 use Rattle.packet_lists.proofs.Unique.{reads-into-unique, list-answers-unique, list-started-unique}
-use Rattle.packet_patterns.specs.Contained.{ContainsPackets}
-use Rattle.packet_patterns.specs.Patterns.{JoinsPackets, RewritesPackets, CopiesPacket}
+use Rattle.packet_patterns.specs.{Contained.ContainsPackets, Patterns.{JoinsPackets, RewritesPackets, CopiesPacket}}
 use Rattle.packet_patterns.proofs.Unique.{joins-packets-unique, rewrites-packets-unique, copies-packet-unique, contains-packets-unique}
 use Rattle.station.specs.Code.{codeOf, Coded}
 

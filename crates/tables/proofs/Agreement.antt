@@ -1,18 +1,9 @@
 -- Rows hang right together in trees that agree, and shapes that agree obey the rules together. Assumes nothing.
-use Prim.Native.Nat.{ℕ, zero, suc, _≤_, _<_}
-use mathlib.Core.Path.{_≡_, refl, sym, ap, _∙_, subst}
-use mathlib.Core.Logic.{_⊎_, inl, inr, _↔_}
-use mathlib.Core.List.{List}
-use native.Mathlib.Omega.{arith}
-use lib.ListN.{length, getD, take}
-use lib.Seq.{length-take-le, getD-take}
-use Rattle.tables.specs.Tree.{Tree, Child, Below, child, under, From, Hangs, IsLabel}
-use Rattle.tables.specs.Column.{bareNumbers}
-use Rattle.tables.specs.Pattern.{Shape, shapeOf, StepRule, ValidShape, ValidPattern}
-use Rattle.tables.specs.inner.Steps.{stepsOf}
-use Rattle.tables.specs.declared.Pattern.{Pattern}
-use Rattle.tables.proofs.Columns.{bare-at}
-use Rattle.tables.proofs.Rules.{Agree, agree-sym}
+use Rattle.tables.proofs.Kit.{ℕ, zero, suc, _≤_, _<_, _≡_, refl, sym, ap, _∙_, subst, _⊎_, inl, inr, _↔_}
+use Rattle.tables.proofs.Kit.{List, arith, length, getD, take, length-take-le, getD-take}
+use Rattle.tables.specs.{Tree.{Tree, Child, Below, child, under, From, Hangs, IsLabel}, Column.bareNumbers}
+use Rattle.tables.specs.{Pattern.{Shape, shapeOf, StepRule, ValidShape, ValidPattern}, inner.Steps.stepsOf, declared.Pattern.Pattern}
+use Rattle.tables.proofs.{Columns.bare-at, Rules.{Agree, agree-sym}}
 
 module _ {S T : Tree} (n : S .size ≡ T .size) (p : (i : ℕ) → i < S .size → S .parent i ≡ T .parent i) where
   child-agree : {a i : ℕ} → Child S a i → Child T a i

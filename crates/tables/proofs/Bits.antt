@@ -1,13 +1,8 @@
 -- Laws of the bits of a number. Assumes nothing.
-use Prim.Native.Nat.{ℕ, zero, suc, _+_, _*_, _-_, _/_, _%_, _^_, _<_, _≤_, min, max}
-use mathlib.Core.Path.{_≡_, _∙_, sym}
-use native.Mathlib.Omega.{arith}
-use native.Mathlib.Nat.{lt-of-lt-of-le, div-self, mul-div-right, div-eq-of-lt, pow-suc, pow-succ', div-div-eq-div-mul}
-use mathlib.Core.Logic.{_⊎_, inl, inr, ⊎-elim}
-use native.Mathlib.Decide.{ℕ-discrete, decLt}
-use lib.Bits.{bitOr, bitAnd, bitXor, or-shr, or-step, and-shr, and-step, xor-shr, xor-add-and}
-use lib.Pow.{pow-pos, pow-mono, pow-lt, pow-add, shr-shr, shl-exact, field, mod-mod-pow}
-use lib.Dec.{lit<}
+use Rattle.tables.proofs.Kit.{ℕ, zero, suc, _+_, _*_, _-_, _/_, _%_, _^_, _<_, _≤_, min, max, _≡_, _∙_, sym, arith}
+use Rattle.tables.proofs.Kit.{lt-of-lt-of-le, div-self, mul-div-right, div-eq-of-lt, pow-suc, pow-succ', div-div-eq-div-mul, _⊎_, inl, inr, ⊎-elim}
+use Rattle.tables.proofs.Kit.{ℕ-discrete, decLt, bitOr, bitAnd, bitXor, or-shr, or-step, and-shr, and-step, xor-shr, xor-add-and}
+use Rattle.tables.proofs.Kit.{pow-pos, pow-mono, pow-lt, pow-add, shr-shr, shl-exact, field, mod-mod-pow, lit<}
 use Rattle.tables.specs.Bits.{bit}
 
 pub bit-lt : (x s : ℕ) → bit x s < 2

@@ -1,10 +1,5 @@
 -- Choices by a test, and what holds below k + 1: plain numbers, no tables. Assumes nothing.
-use Prim.Native.Nat.{ℕ, suc, _<_}
-use mathlib.Core.Path.{_≡_, refl}
-use mathlib.Core.Logic.{⊎-elim, _≢_}
-use native.Mathlib.Omega.{arith}
-use native.Mathlib.Nat.{eq-or-lt-of-le}
-use native.Mathlib.Decide.{ℕ-discrete}
+use Rattle.tables.proofs.Kit.{ℕ, suc, _<_, _≡_, refl, ⊎-elim, _≢_, arith, eq-or-lt-of-le, ℕ-discrete}
 
 -- a where the test holds, else b
 unfoldable pub sel : {X : Type 0} → Dec X → ℕ → ℕ → ℕ

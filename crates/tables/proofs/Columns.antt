@@ -1,14 +1,9 @@
 -- Laws of blocks, of columns, of arrays that are zero past their first entries, and of steps in arrays. Assumes nothing.
-use Prim.Native.Nat.{ℕ, zero, suc, _+_, _*_, _-_, _≤_, _<_}
-use mathlib.Core.Path.{_≡_, refl, sym, ap, ap₂, _∙_, subst}
-use mathlib.Core.List.{List, [], _∷_, _++_, map, append-assoc}
-use native.Mathlib.Omega.{arith}
-use native.Mathlib.Nat.{zero-mul, suc-mul}
-use native.Mathlib.Numerals.{add-one}
-use lib.ListN.{length, getD, set, take, drop, replicate, length-append, length-drop, length-replicate, length-map, List·getD-append, List·getD-map}
-use lib.Seq.{getD-append-add, drop-cons, drop-drop, drop-append-add, take-at, set-at, ext-getD}
-use Rattle.tables.specs.Column.{blocks, column, padded, stepNo, stepArray, bareNumbers}
-use Rattle.tables.specs.declared.StepNo.{StepNo}
+use Rattle.tables.proofs.Kit.{ℕ, zero, suc, _+_, _*_, _-_, _≤_, _<_, _≡_, refl, sym, ap, ap₂, _∙_, subst}
+use Rattle.tables.proofs.Kit.{List, [], _∷_, _++_, map, append-assoc, arith, zero-mul, suc-mul, add-one, length, getD, set, take, drop}
+use Rattle.tables.proofs.Kit.{replicate, length-append, length-drop, length-replicate, length-map, List·getD-append, List·getD-map}
+use Rattle.tables.proofs.Kit.{getD-append-add, drop-cons, drop-drop, drop-append-add, take-at, set-at, ext-getD}
+use Rattle.tables.specs.{Column.{blocks, column, padded, stepNo, stepArray, bareNumbers}, declared.StepNo.StepNo}
 use Rattle.tables.proofs.Choice.{below-or-at}
 
 -- block k ends within the blocks

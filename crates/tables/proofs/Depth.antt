@@ -1,10 +1,6 @@
 -- How deep a row stands, that the rows above one row are told apart by their depth, and that what lies below a row stands in one run after it.
 -- Assumes nothing.
-use Prim.Native.Nat.{ℕ, zero, suc, _≤_, _<_}
-use mathlib.Core.Path.{_≡_, refl, sym, ap, _∙_, subst}
-use mathlib.Core.Logic.{_⊎_, inl, inr, ⊎-elim}
-use native.Mathlib.Omega.{arith}
-use native.Mathlib.Nat.{eq-or-lt-of-le}
+use Rattle.tables.proofs.Kit.{ℕ, zero, suc, _≤_, _<_, _≡_, refl, sym, ap, _∙_, subst, _⊎_, inl, inr, ⊎-elim, arith, eq-or-lt-of-le}
 use Rattle.tables.specs.Tree.{Tree, Child, Below, child, under, From}
 use Rattle.tables.proofs.Trees.{Ordered, parent-lt, below-up, below-parent, below-trans}
 

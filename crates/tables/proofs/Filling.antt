@@ -1,13 +1,7 @@
 -- A pattern's table, written step by step: the steps before the one looked at stand in the three arrays, with zeros after them. Assumes nothing.
-use Prim.Native.Nat.{ℕ, _+_, _≤_, _<_}
-use mathlib.Core.Path.{_≡_, refl}
-use native.Mathlib.Omega.{arith}
-use lib.ListN.{set, replicate}
-use Rattle.tables.specs.Column.{blocks, padded, stepNo, stepArray}
-use Rattle.tables.specs.Pattern.{Shape, tableOf, patternOf}
-use Rattle.tables.specs.declared.Pattern.{Pattern}
-use Rattle.tables.proofs.Columns.{padded-next, steps-next}
-use Rattle.tables.proofs.Rules.{pattern-ext}
+use Rattle.tables.proofs.Kit.{ℕ, _+_, _≤_, _<_, _≡_, refl, arith, set, replicate}
+use Rattle.tables.specs.{Column.{blocks, padded, stepNo, stepArray}, Pattern.{Shape, tableOf, patternOf}, declared.Pattern.Pattern}
+use Rattle.tables.proofs.{Columns.{padded-next, steps-next}, Rules.pattern-ext}
 
 -- the first k steps of A are written
 pub record Filled (A : Shape) (k : ℕ) (p : Pattern) : Type 0 where

@@ -1,15 +1,8 @@
 -- Climbing decides whether a row hangs right, given that the rows before it do: start at the row before it, and go up while the parent looked for is
 -- smaller. Both checks of tables cite these laws. Assumes nothing.
-use Prim.Native.Nat.{ℕ, zero, suc, _-_, _≤_, _<_}
-use mathlib.Core.Path.{_≡_, refl, sym, subst}
-use mathlib.Core.Logic.{inl, inr, ⊎-elim, _↔_}
-use mathlib.Core.List.{List}
-use native.Mathlib.Omega.{arith}
-use lib.ListN.{length, getD}
-use lib.Dec.{T, eqb}
+use Rattle.tables.proofs.Kit.{ℕ, zero, suc, _-_, _≤_, _<_, _≡_, refl, sym, subst, inl, inr, ⊎-elim, _↔_, List, arith, length, getD, T, eqb}
 use Rattle.tables.specs.Tree.{Tree, Child, Below, child, From, Hangs}
-use Rattle.tables.proofs.Trees.{below-lt-to, parent-lt-to, below-up, from-trans}
-use Rattle.tables.proofs.Tests.{tells-eq}
+use Rattle.tables.proofs.{Trees.{below-lt-to, parent-lt-to, below-up, from-trans}, Tests.tells-eq}
 
 -- the tree whose parents stand in a list
 abbrev pub listed : List ℕ → Tree

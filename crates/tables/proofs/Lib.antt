@@ -1,4 +1,5 @@
--- Laws of the tables that every layer above cites. Assumes nothing.
+-- The words of the kit that proofs use, and the laws of the tables that every layer above cites. Assumes nothing.
+pub mod Kit
 pub mod Choice
 pub mod Tests
 pub mod Trees

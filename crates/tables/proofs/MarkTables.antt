@@ -1,19 +1,8 @@
 -- Marks that a loop over rows gathers, in one number or in a table by a key. Assumes nothing.
-use Prim.Native.Nat.{ℕ, _+_, _^_, _≤_, _<_}
-use mathlib.Core.Path.{_≡_, refl, sym, subst}
-use mathlib.Core.Logic.{_⊎_, inl, inr, _≢_, ⊎-elim}
-use mathlib.Core.List.{List}
-use native.Mathlib.Omega.{arith}
-use native.Mathlib.Decide.{ℕ-discrete, decLt}
-use lib.Bits.{bitOr}
-use lib.ListN.{length, getD, set, replicate, length-replicate, getD-replicate, List·getD-eq-default}
-use lib.Seq.{getD-set-same, getD-set-other}
-use Rattle.tables.specs.Bits.{Marks}
-use Rattle.tables.specs.Tree.{Child}
-use Rattle.tables.specs.Pattern.{Shape, ValidShape}
-use Rattle.tables.proofs.Marks.{marks-none, marks-to, marks-with}
-use Rattle.tables.proofs.Rules.{shape-ordered}
-use Rattle.tables.proofs.Trees.{parent-lt}
+use Rattle.tables.proofs.Kit.{ℕ, _+_, _^_, _≤_, _<_, _≡_, refl, sym, subst, _⊎_, inl, inr, _≢_, ⊎-elim, List, arith, ℕ-discrete, decLt, bitOr}
+use Rattle.tables.proofs.Kit.{length, getD, set, replicate, length-replicate, getD-replicate, List·getD-eq-default, getD-set-same, getD-set-other}
+use Rattle.tables.specs.{Bits.Marks, Tree.Child, Pattern.{Shape, ValidShape}}
+use Rattle.tables.proofs.{Marks.{marks-none, marks-to, marks-with}, Rules.shape-ordered, Trees.parent-lt}
 
 -- from low on and below k, with Q
 abbrev pub Among : ℕ → ℕ → (ℕ → Type 0) → ℕ → Type 0

@@ -1,17 +1,9 @@
 -- Laws of numbers whose bits are marks: how marks are joined, one more is put, and only one number fits. Assumes nothing.
-use Prim.Native.Nat.{ℕ, zero, suc, _+_, _*_, _/_, _%_, _^_, _<_}
-use mathlib.Core.Path.{_≡_, sym, ap, _∙_, subst}
-use mathlib.Core.Logic.{_⊎_, inl, inr, ⊎-elim}
-use native.Mathlib.Omega.{arith}
-use native.Mathlib.Decide.{ℕ-discrete, decLt}
-use mathlib.Core.Bool.{Bool, true, false, cond}
-use native.Mathlib.Nat.{pow-succ', zero-add, mod-lt}
-use lib.Bits.{bitOr, bitAnd, bitXor, or-shifted-r}
-use lib.Pow.{pow-pos}
+use Rattle.tables.proofs.Kit.{ℕ, zero, suc, _+_, _*_, _/_, _%_, _^_, _<_, _≡_, sym, ap, _∙_, subst, _⊎_, inl, inr, ⊎-elim, arith}
+use Rattle.tables.proofs.Kit.{ℕ-discrete, decLt, Bool, true, false, cond, pow-succ', zero-add, mod-lt, bitOr, bitAnd, bitXor, or-shifted-r, pow-pos}
 use Rattle.tables.specs.Bits.{bit, Marks}
 use Rattle.tables.proofs.Bits.{bit-zero, bit-lt, bit-or, bit-and, bit-without, bit-shr, bit-mod, bit-high, bit-pow, bit-other, bits-same}
-use Rattle.tables.proofs.Choice.{below-or-at}
-use Rattle.tables.proofs.Tests.{Tells}
+use Rattle.tables.proofs.{Choice.below-or-at, Tests.Tells}
 
 -- a bit that is not 1 is 0
 pub bit-cases : (x s : ℕ) → (bit x s ≡ 1) ⊎ (bit x s ≡ 0)

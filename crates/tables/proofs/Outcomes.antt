@@ -1,13 +1,9 @@
 -- What follows from both outcomes of one call, whether it answers or refuses; and the checks of a call that makes other calls one after the other, which are
 -- theirs, one list after the other. Assumes nothing.
-use Prim.Native.Nat.{ℕ}
-use mathlib.Core.Logic.{inl, inr, ⊎-elim}
-use mathlib.Core.List.{List, [], _∷_, _++_}
-use Rattle.tables.specs.Refusal.{Check, Passes, Refuses, Decided, CountedBy}
-use Rattle.tables.specs.declared.Refusal.{Refusal}
-use Rattle.tables.specs.declared.Checked.{Checked}
+use Rattle.tables.proofs.Kit.{ℕ, inl, inr, ⊎-elim, List, [], _∷_, _++_}
+use Rattle.tables.specs.{Refusal.{Check, Passes, Refuses, Decided, CountedBy}, declared.Refusal.Refusal}
+use Rattle.tables.specs.{declared.Checked.Checked, declared.Counted.Counted}
 use Rattle.tables.specs.declared.Checked.the-variants as checked
-use Rattle.tables.specs.declared.Counted.{Counted}
 use Rattle.tables.specs.declared.Counted.the-variants as counted
 use Rattle.tables.proofs.Refusals.{refuses-not-passes}
 

@@ -1,15 +1,9 @@
 -- A call answers or refuses, never both, and refuses by one number. Assumes nothing.
-use Prim.Native.Nat.{ℕ}
-use mathlib.Core.Path.{_≡_, refl, sym, ap, _∙_}
-use mathlib.Core.Logic.{_⊎_, inl, ⊎-elim}
-use mathlib.Core.List.{List, [], _∷_}
-use Rattle.tables.specs.Refusal.{number, Check, Passes, Refuses, Decided, CountedBy}
-use Rattle.tables.specs.declared.Refusal.{Refusal}
+use Rattle.tables.proofs.Kit.{ℕ, _≡_, refl, sym, ap, _∙_, _⊎_, inl, ⊎-elim, List, [], _∷_, getD}
+use Rattle.tables.specs.{Refusal.{number, Check, Passes, Refuses, Decided, CountedBy}, declared.Refusal.Refusal}
 use Rattle.tables.specs.declared.Refusal.the-variants.{Version, Length, BadPattern, BadDocument, Room, Start, OtherLabel, TooLarge, NoLabel}
-use lib.ListN.{getD}
-use Rattle.tables.specs.declared.Checked.{Checked}
+use Rattle.tables.specs.{declared.Checked.Checked, declared.Counted.Counted}
 use Rattle.tables.specs.declared.Checked.the-variants as checked
-use Rattle.tables.specs.declared.Counted.{Counted}
 use Rattle.tables.specs.declared.Counted.the-variants as counted
 
 -- the refusals in the order of their numbers

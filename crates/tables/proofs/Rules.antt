@@ -1,18 +1,9 @@
 -- What the rules give: order in a valid table, a pattern's table and its shape say the same, and tests for the rules. Assumes nothing.
-use Prim.Native.Nat.{ℕ, suc, _<_}
-use mathlib.Core.Path.{_≡_, refl, sym, ap, _∙_}
-use mathlib.Core.Bool.{Bool, _&&_, _||_}
-use native.Mathlib.Omega.{arith}
-use lib.Dec.{T, ltb, eqb, eqb→eq}
-use lib.ListN.{length, getD}
-use Rattle.tables.specs.Tree.{IsLabel}
-use Rattle.tables.specs.Column.{padded, stepArray, bareNumbers}
+use Rattle.tables.proofs.Kit.{ℕ, suc, _<_, _≡_, refl, sym, ap, _∙_, Bool, _&&_, _||_, arith, T, ltb, eqb, eqb→eq, length, getD}
+use Rattle.tables.specs.{Tree.IsLabel, Column.{padded, stepArray, bareNumbers}}
 use Rattle.tables.specs.Document.{Document, nodeCount, nodesOf, NodeRule, ValidDocument, documentOf}
-use Rattle.tables.specs.Pattern.{Shape, shapeOf, tableOf, patternOf, StepRule, ValidShape, Clean}
-use Rattle.tables.specs.declared.Pattern.{Pattern}
-use Rattle.tables.specs.declared.StepNo.{StepNo}
-use Rattle.tables.proofs.Trees.{Ordered}
-use Rattle.tables.proofs.Columns.{padded-at, padded-ext, steps-at, steps-ext, bare-same}
+use Rattle.tables.specs.{Pattern.{Shape, shapeOf, tableOf, patternOf, StepRule, ValidShape, Clean}, declared.Pattern.Pattern, declared.StepNo.StepNo}
+use Rattle.tables.proofs.{Trees.Ordered, Columns.{padded-at, padded-ext, steps-at, steps-ext, bare-same}}
 use Rattle.tables.proofs.Tests.{Tells, tells-lt, tells-eq, tells-and, tells-or, tells-iff, tells-self, every, tells-every, and-both, sameList, same-list}
 use Rattle.tables.proofs.TreeTests.{hangsRight, hangs-sound, hangs-complete}
 

@@ -1,11 +1,6 @@
 -- Tests that tell: a Boolean that is true exactly where a statement holds. Assumes nothing.
-use Prim.Native.Nat.{ℕ, zero, suc, _<_}
-use mathlib.Core.Path.{_≡_, refl, sym, ap₂, subst}
-use mathlib.Core.Logic.{_⊎_, inl, inr, ⊎-elim, _↔_}
-use mathlib.Core.Bool.{Bool, true, false, not, _&&_, _||_}
-use mathlib.Core.List.{List, [], _∷_}
-use native.Mathlib.Omega.{arith}
-use lib.Dec.{T, ltb, eqb, ltb→lt, lt→ltb, eqb→eq, eqb-refl}
+use Rattle.tables.proofs.Kit.{ℕ, zero, suc, _<_, _≡_, refl, sym, ap₂, subst, _⊎_, inl, inr, ⊎-elim, _↔_}
+use Rattle.tables.proofs.Kit.{Bool, true, false, not, _&&_, _||_, List, [], _∷_, arith, T, ltb, eqb, ltb→lt, lt→ltb, eqb→eq, eqb-refl}
 use Rattle.tables.proofs.Choice.{below-or-at}
 
 pub record Tells (b : Bool) (X : Type 0) : Type 0 where

@@ -1,13 +1,7 @@
 -- Tests for "child", "below" and the rule for a row's parent, by climbing: they run, and tell what the definitions say. Assumes nothing.
-use Prim.Native.Nat.{ℕ, zero, suc, _≤_}
-use mathlib.Core.Path.{sym}
-use mathlib.Core.Logic.{_⊎_, inl, inr, ⊎-elim}
-use mathlib.Core.Bool.{Bool, false, _&&_, _||_}
-use native.Mathlib.Omega.{arith}
-use lib.Dec.{T, ltb, eqb}
+use Rattle.tables.proofs.Kit.{ℕ, zero, suc, _≤_, sym, _⊎_, inl, inr, ⊎-elim, Bool, false, _&&_, _||_, arith, T, ltb, eqb}
 use Rattle.tables.specs.Tree.{Tree, Child, Below, child, under, From, Hangs}
-use Rattle.tables.proofs.Trees.{Ordered, below-lt, below-up}
-use Rattle.tables.proofs.Tests.{Tells, tells-lt, tells-eq, tells-and, tells-or, tells-iff, tells-self}
+use Rattle.tables.proofs.{Trees.{Ordered, below-lt, below-up}, Tests.{Tells, tells-lt, tells-eq, tells-and, tells-or, tells-iff, tells-self}}
 
 unfoldable pub isChild : Tree → ℕ → ℕ → Bool
 isChild D a i = ltb 0 i && (ltb i (D .size) && eqb (D .parent i) a)

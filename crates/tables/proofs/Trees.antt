@@ -1,10 +1,6 @@
 -- Laws of trees in document order: parents come first, what lies below a row comes after it. Assumes nothing.
-use Prim.Native.Nat.{ℕ, zero, suc, _≤_, _<_}
-use mathlib.Core.Path.{_≡_, refl, sym, _∙_, subst}
-use mathlib.Core.Logic.{_⊎_, inl, inr, ⊎-elim}
-use native.Mathlib.Omega.{arith}
-use native.Mathlib.Nat.{eq-zero-or-pos}
-use native.Mathlib.Decide.{decLt, ℕ-discrete, map-dec}
+use Rattle.tables.proofs.Kit.{ℕ, zero, suc, _≤_, _<_, _≡_, refl, sym, _∙_, subst}
+use Rattle.tables.proofs.Kit.{_⊎_, inl, inr, ⊎-elim, arith, eq-zero-or-pos, decLt, ℕ-discrete, map-dec}
 use Rattle.tables.specs.Tree.{Tree, Child, Below, child, under, From}
 
 pub below-trans : {T : Tree} {a m i : ℕ} → Below T a m → Below T m i → Below T a i

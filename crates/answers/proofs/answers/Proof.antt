@@ -1,16 +1,7 @@
 -- The checks in their order, then both passes. Assumes nothing.
-use mathlib.Core.Path.{refl, subst}
-use mathlib.Core.Logic.{inl, inr, ⊎-elim}
-use denote.Ref.{now}
-use Prim.Native.Nat.{_/_}
-use native.Mathlib.Omega.{arith}
-use Rattle.tables.specs.Document.{ValidDocument, documentOf}
-use Rattle.tables.specs.Pattern.{ValidPattern}
-use Rattle.tables.specs.Checks.{ChecksPattern, ChecksDocument}
-use borrow.Author.Tests.{ltb-true, ltb-false}
-use lib.ListN.{length}
+use Rattle.tables.proofs.Kit.{refl, subst, inl, inr, ⊎-elim, now, _/_, arith, ltb-true, ltb-false, length, needs}
+use Rattle.tables.specs.{Document.{ValidDocument, documentOf}, Pattern.ValidPattern, Checks.{ChecksPattern, ChecksDocument}}
 use Rattle.answers.specs.Answers.{HasRoom}
-use borrow.Author.Needs.{needs}
 use Rattle.answers.proofs.answers.Statement.{statement}
 use Rattle.answers.proofs.answers.Tie as tie
 

@@ -1,12 +1,9 @@
 -- Both passes, with the start nodes of the plain form marked between them. Assumes nothing.
-use denote.Ref.{now}
+use Rattle.tables.proofs.Kit.{now, needs}
 use Rattle.tables.specs.Pattern.{shapeOf}
-use Rattle.tables.proofs.Rules.{document-ordered}
-use Rattle.tables.proofs.Trees.{parent-lt}
+use Rattle.tables.proofs.{Rules.document-ordered, Trees.parent-lt}
 use Rattle.placing.specs.Answer.{Begins}
-use Rattle.answers.proofs.AnswerList.{found-first}
-use Rattle.answers.proofs.Finding.{found-before, plain-ready, plain-first, plain-length, plain-rest}
-use borrow.Author.Needs.{needs}
+use Rattle.answers.proofs.{AnswerList.found-first, Finding.{found-before, plain-ready, plain-first, plain-length, plain-rest}}
 use Rattle.answers.proofs.find.Statement.{statement}
 use Rattle.answers.proofs.find.Tie as tie
 

@@ -1,16 +1,10 @@
 -- Both passes, with the start list's nodes marked between them. Assumes nothing.
-use denote.Ref.{now}
-use mathlib.Core.Path.{_∙_}
-use native.Mathlib.Omega.{arith}
-use Rattle.tables.specs.Document.{documentOf}
-use Rattle.tables.specs.Pattern.{shapeOf}
-use Rattle.tables.proofs.Rules.{document-ordered}
-use Rattle.tables.proofs.Trees.{parent-lt}
+use Rattle.tables.proofs.Kit.{now, _∙_, arith, needs}
+use Rattle.tables.specs.{Document.documentOf, Pattern.shapeOf}
+use Rattle.tables.proofs.{Rules.document-ordered, Trees.parent-lt}
 use Rattle.placing.specs.Answer.{In}
 use Rattle.answers.specs.inner.Standing.{Ready}
-use Rattle.answers.proofs.AnswerList.{found-first}
-use Rattle.answers.proofs.Finding.{found-before, started-ready, started-first, started-rest}
-use borrow.Author.Needs.{needs}
+use Rattle.answers.proofs.{AnswerList.found-first, Finding.{found-before, started-ready, started-first, started-rest}}
 use Rattle.answers.proofs.find_started.Statement.{statement}
 use Rattle.answers.proofs.find_started.Tie as tie
 

@@ -1,18 +1,9 @@
 -- The checks in their order, the start before the room, then both passes. Assumes nothing.
-use mathlib.Core.Path.{_≡_, refl, subst}
-use mathlib.Core.Logic.{inl, inr, ⊎-elim}
-use denote.Ref.{now}
-use Prim.Native.Nat.{_/_}
-use native.Mathlib.Omega.{arith}
-use Rattle.tables.specs.Document.{ValidDocument, documentOf}
-use Rattle.tables.specs.Pattern.{shapeOf, ValidPattern}
-use Rattle.tables.specs.Checks.{ChecksPattern, ChecksDocument}
+use Rattle.tables.proofs.Kit.{_≡_, refl, subst, inl, inr, ⊎-elim, now, _/_, arith, ltb-true, ltb-false, length, needs}
+use Rattle.tables.specs.{Document.{ValidDocument, documentOf}, Pattern.{shapeOf, ValidPattern}, Checks.{ChecksPattern, ChecksDocument}}
 use Rattle.placing.specs.Answer.{StartList}
 use Rattle.tables.proofs.Tests.{passed, failed}
-use borrow.Author.Tests.{ltb-true, ltb-false}
-use lib.ListN.{length}
 use Rattle.answers.specs.Answers.{HasRoom}
-use borrow.Author.Needs.{needs}
 use Rattle.answers.proofs.started.Statement.{statement}
 use Rattle.answers.proofs.started.Tie as tie
 

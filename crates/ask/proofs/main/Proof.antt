@@ -1,9 +1,6 @@
 -- `ask::main` reads, calls and writes within its buffers. Assumes nothing.
-use mathlib.Core.Path.{sym}
-use lib.ListN.{take, replicate}
-use lib.Seq.{length-take-le}
+use Rattle.tables.proofs.Kit.{sym, take, replicate, length-take-le, needs}
 use Rattle.asking.proofs.Answering.{reply-fits}
-use borrow.Author.Needs.{needs}
 use Rattle.ask.proofs.main.Statement.{statement}
 use Rattle.ask.proofs.main.Tie as tie
 

@@ -1,13 +1,9 @@
 -- `asking::find` meets its contract: what it asks of its arguments leaves the call no refusal. Assumes nothing.
-use mathlib.Core.Path.{subst}
-use native.Mathlib.Omega.{arith}
-use denote.Ref.{now}
-use lib.ListN.{length, replicate}
+use Rattle.tables.proofs.Kit.{subst, arith, now, length, replicate, needs}
 use Rattle.tables.specs.Document.{documentOf}
 use Rattle.tables.proofs.Refusals.{refuses-not-passes}
 use Rattle.answers.specs.Answers.{answerChecks, FindsAnswers}
 use Rattle.asking.proofs.Answering.{found-finds}
-use borrow.Author.Needs.{needs}
 use Rattle.asking.proofs.find.Statement.{statement}
 use Rattle.asking.proofs.find.Tie as tie
 

@@ -1,10 +1,6 @@
 -- `asking::next_at` meets its contract: the input ends first, or the packet does. Assumes nothing.
-use Prim.Native.Nat.{_+_}
-use mathlib.Core.Path.{ap, _∙_}
+use Rattle.tables.proofs.Kit.{_+_, ap, _∙_, arith, now, needs}
 use Rattle.asking.proofs.Parts.{next-cut, next-whole}
-use native.Mathlib.Omega.{arith}
-use denote.Ref.{now}
-use borrow.Author.Needs.{needs}
 use Rattle.asking.proofs.next_at.Statement.{statement}
 use Rattle.asking.proofs.next_at.Tie as tie
 

@@ -1,19 +1,10 @@
 -- `asking::past_document` meets its contract: the view packet, the query packet, the input's end, and then the answers. Assumes nothing.
-use Prim.Native.Nat.{ℕ, _≤_, _<_}
-use mathlib.Core.Path.{subst}
-use mathlib.Core.List.{List}
-use native.Mathlib.Omega.{arith}
-use denote.Ref.{now}
-use lib.ListN.{length}
+use Rattle.tables.proofs.Kit.{ℕ, _≤_, _<_, subst, List, arith, now, length, needs}
 use Rattle.tables.specs.Document.{documentOf}
 use Rattle.tables.specs.declared.Checked.the-variants as checked
-use Rattle.asking.specs.Parts.{nextAt}
-use Rattle.asking.specs.Text.{viewWord, queryWord, inputWord}
-use Rattle.asking.proofs.Parts.{next-within}
-use Rattle.asking.proofs.Writing.{refused-short}
-use Rattle.asking.proofs.Answering.{number-small}
+use Rattle.asking.specs.{Parts.nextAt, Text.{viewWord, queryWord, inputWord}}
+use Rattle.asking.proofs.{Parts.next-within, Writing.refused-short, Answering.number-small}
 use Rattle.asking.proofs.Replying.{ReadAt, read-valid, rules-valid, view-refused, query-refused, extra-refused, all-answered}
-use borrow.Author.Needs.{needs}
 use Rattle.asking.proofs.past_document.Statement.{statement}
 use Rattle.asking.proofs.past_document.Tie as tie
 

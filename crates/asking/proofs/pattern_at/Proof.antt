@@ -1,13 +1,8 @@
 -- `asking::pattern_at` meets its contract: the bytes up to the next packet are read. Assumes nothing.
-use Prim.Native.Nat.{_-_}
-use mathlib.Core.Path.{_≡_, subst}
-use native.Mathlib.Omega.{arith}
-use denote.Ref.{now}
-use lib.ListN.{take, drop}
+use Rattle.tables.proofs.Kit.{_-_, _≡_, subst, arith, now, take, drop, needs}
 use Rattle.packets.specs.PatternPacket.{ReadsPattern}
 use Rattle.asking.specs.Parts.{packetAt}
 use Rattle.asking.proofs.Parts.{next-within, part-is}
-use borrow.Author.Needs.{needs}
 use Rattle.asking.proofs.pattern_at.Statement.{statement}
 use Rattle.asking.proofs.pattern_at.Tie as tie
 

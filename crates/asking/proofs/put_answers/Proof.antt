@@ -1,12 +1,8 @@
 -- `asking::put_answers` meets its contract: the view's line, the query's, the third. Assumes nothing.
-use Prim.Native.Nat.{_≤_}
-use native.Mathlib.Omega.{arith}
-use denote.Ref.{now}
-use lib.ListN.{length, take}
+use Rattle.tables.proofs.Kit.{_≤_, arith, now, length, take, needs}
 use Rattle.tables.specs.Document.{documentOf}
 use Rattle.asking.specs.Text.{viewWord, queryWord, line}
 use Rattle.asking.proofs.Answering.{found-short, found-count, lists-start, answers-put}
-use borrow.Author.Needs.{needs}
 use Rattle.asking.proofs.put_answers.Statement.{statement}
 use Rattle.asking.proofs.put_answers.Tie as tie
 

@@ -1,20 +1,11 @@
 -- `asking::put_reply` meets its contract: the document packet, and then what follows it. Assumes nothing.
-use Prim.Native.Nat.{_≤_}
-use mathlib.Core.Path.{sym, subst}
-use native.Mathlib.Omega.{arith}
-use denote.Ref.{now}
-use lib.ListN.{take, replicate}
-use lib.Seq.{length-take-le}
+use Rattle.tables.proofs.Kit.{_≤_, sym, subst, arith, now, take, replicate, length-take-le, needs}
 use Rattle.tables.specs.declared.Counted.the-variants.{Count, Refused}
 use Rattle.packets.specs.DocumentPacket.{ReadsDocument}
-use Rattle.asking.specs.Text.{documentWord}
-use Rattle.asking.specs.Parts.{documentPart}
+use Rattle.asking.specs.{Text.documentWord, Parts.documentPart}
 use Rattle.packets.proofs.Reading.{document-fronts}
-use Rattle.asking.proofs.Parts.{next-within, rules-pass}
-use Rattle.asking.proofs.Writing.{refused-short}
-use Rattle.asking.proofs.Answering.{number-small}
-use Rattle.asking.proofs.Replying.{DocumentRead, document-read, document-refused}
-use borrow.Author.Needs.{needs}
+use Rattle.asking.proofs.{Parts.{next-within, rules-pass}, Writing.refused-short}
+use Rattle.asking.proofs.{Answering.number-small, Replying.{DocumentRead, document-read, document-refused}}
 use Rattle.asking.proofs.put_reply.Statement.{statement}
 use Rattle.asking.proofs.put_reply.Tie as tie
 

@@ -1,10 +1,8 @@
 -- `asking::put_started` meets its contract: the started form finds the answers, and their line fits. Assumes nothing.
-use native.Mathlib.Omega.{arith}
-use denote.Ref.{now}
+use Rattle.tables.proofs.Kit.{arith, now, needs}
 use Rattle.tables.specs.Document.{documentOf}
 use Rattle.asking.specs.Text.{rewritingWord}
 use Rattle.asking.proofs.Answering.{found-short, found-count}
-use borrow.Author.Needs.{needs}
 use Rattle.asking.proofs.put_started.Statement.{statement}
 use Rattle.asking.proofs.put_started.Tie as tie
 

@@ -1,12 +1,8 @@
 -- `asking::put_third` meets its contract: a line for each answer of the rewriting call. Assumes nothing.
-use mathlib.Core.Path.{refl, subst}
-use native.Mathlib.Omega.{arith}
+use Rattle.tables.proofs.Kit.{refl, subst, arith, needs}
 use Rattle.rewriting.specs.Rewriting.{AnswersRewriting}
-use Rattle.asking.specs.Text.{rewritingWord, line, refusedLine, noneLine}
-use Rattle.asking.specs.Replies.{handed, none, refused}
-use Rattle.asking.proofs.Writing.{refused-short}
-use Rattle.asking.proofs.Answering.{handed-right, refused-large}
-use borrow.Author.Needs.{needs}
+use Rattle.asking.specs.{Text.{rewritingWord, line, refusedLine, noneLine}, Replies.{handed, none, refused}}
+use Rattle.asking.proofs.{Writing.refused-short, Answering.{handed-right, refused-large}}
 use Rattle.asking.proofs.put_third.Statement.{statement}
 use Rattle.asking.proofs.put_third.Tie as tie
 

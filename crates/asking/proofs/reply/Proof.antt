@@ -1,8 +1,5 @@
 -- `asking::reply` meets its contract: the room, then the text. Assumes nothing.
-use mathlib.Core.Path.{refl}
-use mathlib.Core.Logic.{inl}
-use native.Mathlib.Omega.{arith}
-use borrow.Author.Needs.{needs}
+use Rattle.tables.proofs.Kit.{refl, inl, arith, needs}
 use Rattle.asking.proofs.reply.Statement.{statement}
 use Rattle.asking.proofs.reply.Tie as tie
 

@@ -1,10 +1,7 @@
 -- `containment::contains` meets its contract: both patterns are checked, then compared. Assumes nothing.
-use mathlib.Core.Path.{refl, subst}
-use Rattle.tables.specs.Checks.{ChecksPattern}
-use Rattle.tables.specs.Pattern.{ValidPattern}
-use Rattle.containment.proofs.Answering.{pair-refuses}
-use Rattle.containment.proofs.Verdicts.{first-refused, second-refused}
-use borrow.Author.Needs.{needs}
+use Rattle.tables.proofs.Kit.{refl, subst, needs}
+use Rattle.tables.specs.{Checks.ChecksPattern, Pattern.ValidPattern}
+use Rattle.containment.proofs.{Answering.pair-refuses, Verdicts.{first-refused, second-refused}}
 use Rattle.containment.proofs.contains.Statement.{statement}
 use Rattle.containment.proofs.contains.Tie as tie
 

@@ -1,17 +1,8 @@
 -- `containment::contains_right` meets its contract: a free label, the room, and then whether there is a mapping. Assumes nothing.
-use Prim.Native.Nat.{_+_, _≤_}
-use mathlib.Core.Path.{_≡_, refl, sym, subst}
-use mathlib.Core.Logic.{⊎-elim}
-use native.Mathlib.Omega.{arith}
-use denote.Ref.{now}
-use lib.Dec.{T}
-use lib.ListN.{length}
+use Rattle.tables.proofs.Kit.{_+_, _≤_, _≡_, refl, sym, subst, ⊎-elim, arith, now, T, length, ltb-true, ltb-false, needs}
 use Rattle.tables.specs.Pattern.{shapeOf}
 use Rattle.containment.specs.Witness.{Fresh, witnessSize}
-use Rattle.containment.proofs.Answering.{fresh-of, fresh-none, label-refuses, room-refuses, all-pass}
-use Rattle.containment.proofs.Contained.{witness-few}
-use borrow.Author.Tests.{ltb-true, ltb-false}
-use borrow.Author.Needs.{needs}
+use Rattle.containment.proofs.{Answering.{fresh-of, fresh-none, label-refuses, room-refuses, all-pass}, Contained.witness-few}
 use Rattle.containment.proofs.contains_right.Statement.{statement}
 use Rattle.containment.proofs.contains_right.Tie as tie
 

@@ -1,10 +1,8 @@
 -- `containment::equal` meets its contract: both patterns are checked, then each is sought in the other. Assumes nothing.
-use mathlib.Core.Path.{subst}
-use Rattle.tables.specs.Checks.{ChecksPattern}
-use Rattle.tables.specs.Pattern.{ValidPattern}
+use Rattle.tables.proofs.Kit.{subst, needs}
+use Rattle.tables.specs.{Checks.ChecksPattern, Pattern.ValidPattern}
 use Rattle.tables.proofs.Tests.{passed, failed}
 use Rattle.containment.proofs.Verdicts.{first-refused, second-refused}
-use borrow.Author.Needs.{needs}
 use Rattle.containment.proofs.equal.Statement.{statement}
 use Rattle.containment.proofs.equal.Tie as tie
 

@@ -1,12 +1,5 @@
 -- `containment::fresh` meets its contract. The labels up to l all stand; in the inner loops the steps looked at do not have the label l. Assumes nothing.
-use Prim.Native.Nat.{ℕ, _+_, _-_, _<_, _≤_}
-use mathlib.Core.Path.{_≡_, sym, _∙_, subst}
-use mathlib.Core.Logic.{_⊎_, inl, inr, ⊎-elim}
-use lib.Dec.{T}
-use lib.ListN.{getD}
-use native.Mathlib.Omega.{arith}
-use native.Mathlib.Numerals.{add-one}
-use borrow.Author.Count.{below-more}
+use Rattle.tables.proofs.Kit.{ℕ, _+_, _-_, _<_, _≤_, _≡_, sym, _∙_, subst, _⊎_, inl, inr, ⊎-elim, T, getD, arith, add-one, below-more}
 use Rattle.tables.specs.Pattern.{shapeOf}
 use Rattle.containment.specs.Witness.{Stands}
 use Rattle.containment.proofs.UsedLabels.{none-used}

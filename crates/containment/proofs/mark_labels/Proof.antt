@@ -1,11 +1,7 @@
 -- `containment::mark_labels` meets its contract. The loop's invariant: what is marked was so before or stands at a step. Assumes nothing.
-use Prim.Native.Nat.{_-_, _≤_}
-use mathlib.Core.Logic.{inl, ⊎-elim}
-use denote.Ref.{now}
-use native.Mathlib.Omega.{arith}
+use Rattle.tables.proofs.Kit.{_-_, _≤_, inl, ⊎-elim, now, arith, needs}
 use Rattle.tables.specs.Pattern.{shapeOf}
 use Rattle.containment.proofs.UsedLabels.{UsedIn, used-more}
-use borrow.Author.Needs.{needs}
 use Rattle.containment.proofs.mark_labels.Statement.{statement}
 use Rattle.containment.proofs.mark_labels.Tie as tie
 

@@ -1,6 +1,5 @@
 -- `corners::filled` is safe and ends: every entry that it writes is one of the 64. Assumes nothing.
-use borrow.Author.Needs.{needs}
-use Prim.Native.Nat.{_-_}
+use Rattle.tables.proofs.Kit.{needs, _-_}
 use Rattle.corners.proofs.filled.Statement.{statement}
 use Rattle.corners.proofs.filled.Tie as tie
 

@@ -1,6 +1,5 @@
 -- `corners::say_bytes` is safe and ends: every byte that it prints is one of the buffer. Assumes nothing.
-use Prim.Native.Nat.{_-_}
-use borrow.Author.Needs.{needs}
+use Rattle.tables.proofs.Kit.{_-_, needs}
 use Rattle.corners.proofs.say_bytes.Statement.{statement}
 use Rattle.corners.proofs.say_bytes.Tie as tie
 

@@ -1,6 +1,5 @@
 -- `corners::say_list` is safe and ends: every entry that it prints is one of the list. Assumes nothing.
-use Prim.Native.Nat.{_-_}
-use borrow.Author.Needs.{needs}
+use Rattle.tables.proofs.Kit.{_-_, needs}
 use Rattle.corners.proofs.say_list.Statement.{statement}
 use Rattle.corners.proofs.say_list.Tie as tie
 

@@ -1,14 +1,8 @@
 -- `halves::get_halves` meets its contract: the numbers before the one looked at stand in the list, which keeps its other entries. Assumes nothing.
-use Prim.Native.Nat.{_+_, _*_, _-_, _≤_}
-use mathlib.Core.Path.{_≡_}
-use mathlib.Core.List.{_++_}
-use native.Mathlib.Omega.{arith}
-use lib.ListN.{length, drop, length-set}
-use denote.Ref.{now}
+use Rattle.tables.proofs.Kit.{_+_, _*_, _-_, _≤_, _≡_, _++_, arith, length, drop, length-set, now, needs}
 use Rattle.tables.specs.Column.{blocks, column}
 use Rattle.tables.proofs.Columns.{column-next}
 use Rattle.halves.specs.Bytes.{half}
-use borrow.Author.Needs.{needs}
 use Rattle.halves.proofs.get_halves.Statement.{statement}
 use Rattle.halves.proofs.get_halves.Tie as tie
 

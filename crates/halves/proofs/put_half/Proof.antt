@@ -1,13 +1,6 @@
 -- `halves::put_half` meets its contract: two stores in a row. Assumes nothing.
-use Prim.Native.Nat.{suc, _+_}
-use mathlib.Core.Path.{_≡_}
-use mathlib.Core.List.{[], _∷_}
-use native.Mathlib.Omega.{arith}
-use lib.ListN.{length-set}
-use lib.Seq.{sets-eq}
-use denote.Ref.{now}
+use Rattle.tables.proofs.Kit.{suc, _+_, _≡_, [], _∷_, arith, length-set, sets-eq, now, needs}
 use Rattle.halves.specs.Bytes.{high, low}
-use borrow.Author.Needs.{needs}
 use Rattle.halves.proofs.put_half.Statement.{statement}
 use Rattle.halves.proofs.put_half.Tie as tie
 

@@ -1,8 +1,5 @@
 -- `halves::put_halves` meets its contract: the numbers before the one looked at are written. Assumes nothing.
-use Prim.Native.Nat.{_+_, _*_, _-_, _≤_}
-use mathlib.Core.Path.{_≡_, refl}
-use native.Mathlib.Omega.{arith}
-use denote.Ref.{now}
+use Rattle.tables.proofs.Kit.{_+_, _*_, _-_, _≤_, _≡_, refl, arith, now}
 use Rattle.halves.specs.Bytes.{halfBytes}
 use Rattle.halves.proofs.Rows.{RowsPut, rows-none, rows-next}
 use Rattle.halves.proofs.put_halves.Statement.{statement}

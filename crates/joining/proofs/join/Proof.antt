@@ -1,17 +1,8 @@
 -- `joining::join` meets its contract: the five checks, one after the other, and then the join. Assumes nothing.
-use mathlib.Core.Path.{_≡_, refl, sym, subst}
-use mathlib.Core.Logic.{inl, inr, ⊎-elim}
-use native.Mathlib.Omega.{arith}
-use Rattle.tables.specs.Checks.{ChecksPattern}
-use Rattle.tables.specs.Pattern.{zeroPattern, ValidPattern}
-use Rattle.tables.specs.Refusal.{Refuses, Decided}
-use Rattle.tables.specs.declared.Pattern.{Pattern}
-use Rattle.tables.specs.declared.Checked.the-variants.{Refused}
-use Rattle.tables.specs.declared.Refusal.{Refusal}
-use Rattle.tables.specs.declared.Refusal.the-variants.{Start, OtherLabel, TooLarge}
-use Rattle.joining.specs.Join.{joinOf, joinChecks, Joins}
-use Rattle.joining.specs.declared.JoinAnswer.{JoinAnswer}
-use borrow.Author.Needs.{needs}
+use Rattle.tables.proofs.Kit.{_≡_, refl, sym, subst, inl, inr, ⊎-elim, arith, needs}
+use Rattle.tables.specs.{Checks.ChecksPattern, Pattern.{zeroPattern, ValidPattern}, Refusal.{Refuses, Decided}, declared.Pattern.Pattern}
+use Rattle.tables.specs.{declared.Checked.the-variants.Refused, declared.Refusal.Refusal, declared.Refusal.the-variants.{Start, OtherLabel, TooLarge}}
+use Rattle.joining.specs.{Join.{joinOf, joinChecks, Joins}, declared.JoinAnswer.JoinAnswer}
 use Rattle.joining.proofs.join.Statement.{statement}
 use Rattle.joining.proofs.join.Tie as tie
 

@@ -1,16 +1,7 @@
 -- `joining::join_table` meets its contract: the steps before the one looked at are written, in three loops, one for each part of the join. Assumes nothing.
-use Prim.Native.Nat.{ℕ, _+_, _-_, _≤_, _<_}
-use mathlib.Core.Path.{_≡_, refl, sym, ap, _∙_}
-use mathlib.Core.Logic.{⊎-elim}
-use native.Mathlib.Omega.{arith}
-use lib.ListN.{getD}
-use Rattle.tables.specs.Column.{stepNo}
-use Rattle.tables.specs.Pattern.{Shape, shapeOf, tableOf, ValidPattern}
-use Rattle.tables.specs.declared.Pattern.{Pattern}
-use Rattle.tables.specs.declared.StepNo.{StepNo}
-use Rattle.tables.proofs.Trees.{parent-lt}
-use Rattle.tables.proofs.Rules.{shape-ordered}
-use Rattle.tables.proofs.Filling.{Filled, filled-none, filled-next, filled-all}
+use Rattle.tables.proofs.Kit.{ℕ, _+_, _-_, _≤_, _<_, _≡_, refl, sym, ap, _∙_, ⊎-elim, arith, getD}
+use Rattle.tables.specs.{Column.stepNo, Pattern.{Shape, shapeOf, tableOf, ValidPattern}, declared.Pattern.Pattern, declared.StepNo.StepNo}
+use Rattle.tables.proofs.{Trees.parent-lt, Rules.shape-ordered, Filling.{Filled, filled-none, filled-next, filled-all}}
 use Rattle.joining.specs.Join.{renumber, joinShape, joinOf}
 use Rattle.joining.proofs.Parts.{renumber-low, renumber-high, part-front, part-middle, part-rest}
 use Rattle.joining.proofs.join_table.Statement.{statement}

@@ -1,10 +1,6 @@
 -- `mappings::along` meets its contract. Assumes nothing.
-use Prim.Native.Nat.{ℕ, zero, suc}
-use mathlib.Core.Path.{_≡_, refl}
-use mathlib.Core.Logic.{_≢_}
-use native.Mathlib.Omega.{arith}
+use Rattle.tables.proofs.Kit.{ℕ, zero, suc, _≡_, refl, _≢_, arith, needs}
 use Rattle.plan.specs.Steps.{maskFor}
-use borrow.Author.Needs.{needs}
 use Rattle.mappings.proofs.along.Statement.{statement}
 use Rattle.mappings.proofs.along.Tie as tie
 

@@ -1,9 +1,5 @@
 -- `mappings::first_image` meets its contract: none of the steps before s is right. Assumes nothing.
-use Prim.Native.Nat.{ℕ, _-_, _≤_, _<_}
-use mathlib.Core.Path.{_≡_, refl}
-use native.Mathlib.Omega.{arith}
-use borrow.Author.Count.{below-more}
-use lib.ListN.{getD}
+use Rattle.tables.proofs.Kit.{ℕ, _-_, _≤_, _<_, _≡_, refl, arith, below-more, getD}
 use Rattle.tables.specs.Bits.{bit}
 use Rattle.mappings.specs.Fits.{nothing}
 use Rattle.mappings.proofs.Images.{pick-here}

@@ -1,6 +1,5 @@
 -- `mappings::first_steps` meets its contract. Assumes nothing.
-use native.Mathlib.Omega.{arith}
-use borrow.Author.Needs.{needs}
+use Rattle.tables.proofs.Kit.{arith, needs}
 use Rattle.mappings.proofs.first_steps.Statement.{statement}
 use Rattle.mappings.proofs.first_steps.Tie as tie
 

@@ -1,8 +1,7 @@
 -- `mappings::fit_steps` meets its contract: what the pass looks up is that of b. Assumes nothing.
-use native.Mathlib.Omega.{arith}
+use Rattle.tables.proofs.Kit.{arith, needs}
 use Rattle.tables.specs.Pattern.{shapeOf}
 use Rattle.plan.proofs.Groups.{grouped}
-use borrow.Author.Needs.{needs}
 use Rattle.mappings.proofs.fit_steps.Statement.{statement}
 use Rattle.mappings.proofs.fit_steps.Tie as tie
 

@@ -1,18 +1,9 @@
 -- `mappings::fit_turns` meets its contract: the invariant is the state of the upward pass, for every pattern that the plan is of.
 -- Assumes nothing.
-use Prim.Native.Nat.{ℕ, suc, _-_, _<_, _≤_, _^_}
-use mathlib.Core.Path.{_≡_, refl, ap}
-use native.Mathlib.Omega.{arith}
-use lib.Dec.{eqb}
-use lib.ListN.{length, getD}
-use Rattle.tables.specs.Column.{stepNo}
-use Rattle.tables.specs.Pattern.{Shape, shapeOf, rowsOf}
-use Rattle.tables.proofs.MarkTables.{zeros-at}
-use Rattle.tables.proofs.Rules.{shape-ordered}
-use Rattle.tables.proofs.Trees.{parent-lt}
-use Rattle.tables.proofs.Tests.{tells-eq}
-use Rattle.plan.specs.Plans.{GroupPlan}
-use Rattle.plan.specs.Rising.{entries}
+use Rattle.tables.proofs.Kit.{ℕ, suc, _-_, _<_, _≤_, _^_, _≡_, refl, ap, arith, eqb, length, getD}
+use Rattle.tables.specs.{Column.stepNo, Pattern.{Shape, shapeOf, rowsOf}}
+use Rattle.tables.proofs.{MarkTables.zeros-at, Rules.shape-ordered, Trees.parent-lt, Tests.tells-eq}
+use Rattle.plan.specs.{Plans.GroupPlan, Rising.entries}
 use Rattle.plan.proofs.Rising.{Risen, risen-start, risen-turn, along}
 use Rattle.mappings.specs.Fits.{FitsIn}
 use Rattle.mappings.proofs.StepFits.{step-fits, fit-table}

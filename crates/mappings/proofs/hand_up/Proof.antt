@@ -1,9 +1,6 @@
 -- `mappings::hand_up` meets its contract: the stores leave one turn. Assumes nothing.
-use denote.Ref.{now}
-use native.Mathlib.Omega.{arith}
-use lib.ListN.{length-set}
+use Rattle.tables.proofs.Kit.{now, arith, length-set, needs}
 use Rattle.mappings.proofs.StepFits.{turned-lists}
-use borrow.Author.Needs.{needs}
 use Rattle.mappings.proofs.hand_up.Statement.{statement}
 use Rattle.mappings.proofs.hand_up.Tie as tie
 

@@ -1,7 +1,5 @@
 -- `mappings::next_image` meets its contract: none of the steps from q to s is right. Assumes nothing.
-use Prim.Native.Nat.{_-_, _≤_, _<_}
-use mathlib.Core.Path.{sym, _∙_, subst}
-use native.Mathlib.Omega.{arith}
+use Rattle.tables.proofs.Kit.{_-_, _≤_, _<_, sym, _∙_, subst, arith}
 use Rattle.tables.specs.Pattern.{Shape}
 use Rattle.mappings.specs.Fits.{StepLists}
 use Rattle.mappings.proofs.Images.{Sought, sought-start, sought-here, sought-more, sought-end}

@@ -1,6 +1,5 @@
 -- `mappings::takes` meets its contract. Assumes nothing.
-use native.Mathlib.Omega.{arith}
-use borrow.Author.Needs.{needs}
+use Rattle.tables.proofs.Kit.{arith, needs}
 use Rattle.tables.proofs.Tests.{passed, failed, tells-eq}
 use Rattle.mappings.proofs.takes.Statement.{statement}
 use Rattle.mappings.proofs.takes.Tie as tie

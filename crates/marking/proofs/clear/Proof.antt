@@ -1,12 +1,6 @@
 -- Zeros are written from the front. Assumes nothing.
-use Prim.Native.Nat.{_-_, _≤_}
-use mathlib.Core.Path.{_≡_}
-use mathlib.Core.List.{_++_}
-use denote.Ref.{now}
-use lib.ListN.{length, drop, replicate, length-set}
-use borrow.Author.Needs.{needs}
+use Rattle.tables.proofs.Kit.{_-_, _≤_, _≡_, _++_, now, length, drop, replicate, length-set, needs, arith}
 use borrow.Author.Fill.{fill-none, fill-more}
-use native.Mathlib.Omega.{arith}
 use Rattle.marking.proofs.clear.Statement.{statement}
 use Rattle.marking.proofs.clear.Tie as tie
 

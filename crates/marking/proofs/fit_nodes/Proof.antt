@@ -1,13 +1,9 @@
 -- What is looked up is the pattern's plan and the list is cleared, so that all turns leave what fits. Assumes nothing.
-use Prim.Native.Nat.{ℕ, _*_}
-use denote.Ref.{now}
-use lib.ListN.{length}
+use Rattle.tables.proofs.Kit.{ℕ, _*_, now, length, needs}
 use Rattle.tables.specs.Pattern.{shapeOf}
 use Rattle.plan.specs.Leading.{ToParent}
 use Rattle.plan.proofs.Bytes.{spread-marks}
-use Rattle.marking.proofs.Stores.{cleared-zero, cleared-rest, cleared-length}
-use Rattle.marking.proofs.Upward.{fitted-before}
-use borrow.Author.Needs.{needs}
+use Rattle.marking.proofs.{Stores.{cleared-zero, cleared-rest, cleared-length}, Upward.fitted-before}
 use Rattle.marking.proofs.fit_nodes.Statement.{statement}
 use Rattle.marking.proofs.fit_nodes.Tie as tie
 

@@ -1,13 +1,7 @@
 -- The invariant is the state of the upward pass, for every pattern that the plan is of. Assumes nothing.
-use Prim.Native.Nat.{ℕ, suc, _-_, _<_, _≤_}
-use mathlib.Core.Path.{_≡_, refl, _∙_}
-use denote.Ref.{now}
-use lib.ListN.{length, length-set}
-use native.Mathlib.Omega.{arith}
-use Rattle.tables.specs.Document.{documentOf}
-use Rattle.tables.specs.Pattern.{Shape}
-use Rattle.tables.proofs.Rules.{document-ordered}
-use Rattle.tables.proofs.Trees.{parent-lt}
+use Rattle.tables.proofs.Kit.{ℕ, suc, _-_, _<_, _≤_, _≡_, refl, _∙_, now, length, length-set, arith}
+use Rattle.tables.specs.{Document.documentOf, Pattern.Shape}
+use Rattle.tables.proofs.{Rules.document-ordered, Trees.parent-lt}
 use Rattle.plan.specs.Plans.{TablePlan}
 use Rattle.marking.proofs.Upward.{Upward, up-start, up-fits, up-turn, up-root}
 use Rattle.marking.proofs.fit_turns.Statement.{statement}

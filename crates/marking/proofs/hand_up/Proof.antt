@@ -1,9 +1,6 @@
 -- The four stores leave what `HandedUp` says. Assumes nothing.
 use Rattle.marking.proofs.Stores.{handed-is}
-use denote.Ref.{now}
-use native.Mathlib.Omega.{arith}
-use lib.ListN.{length-set}
-use borrow.Author.Needs.{needs}
+use Rattle.tables.proofs.Kit.{now, arith, length-set, needs}
 use Rattle.marking.proofs.hand_up.Statement.{statement}
 use Rattle.marking.proofs.hand_up.Tie as tie
 

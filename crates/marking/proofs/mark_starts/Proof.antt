@@ -1,12 +1,5 @@
 -- Each start node's second entry is set to 1, and no other entry. Assumes nothing.
-use Prim.Native.Nat.{ℕ, _+_, _*_, _-_, _<_, _≤_}
-use mathlib.Core.Path.{_≡_}
-use lib.ListN.{length, getD}
-use native.Mathlib.Omega.{arith}
-use native.Mathlib.Numerals.{add-one}
-use denote.Ref.{now}
-use mir.Syntax.{w16, w64}
-use mir.Val.{Fits}
+use Rattle.tables.proofs.Kit.{ℕ, _+_, _*_, _-_, _<_, _≤_, _≡_, length, getD, arith, add-one, now, w16, w64, Fits}
 use Rattle.marking.proofs.Starts.{MarkedTo, marked-start, marked-more, marked-all, marked-others}
 use Rattle.marking.proofs.mark_starts.Statement.{statement}
 use Rattle.marking.proofs.mark_starts.Tie as tie

@@ -1,6 +1,5 @@
 -- The bit of the output step decides. Assumes nothing.
-use mathlib.Core.Path.{refl}
-use borrow.Author.Needs.{needs}
+use Rattle.tables.proofs.Kit.{refl, needs}
 use Rattle.marking.proofs.note.Statement.{statement}
 use Rattle.marking.proofs.note.Tie as tie
 

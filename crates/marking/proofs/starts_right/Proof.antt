@@ -1,12 +1,5 @@
 -- The list is read once: each entry is at least one more than the one before it, and below n. Assumes nothing.
-use Prim.Native.Nat.{suc, _-_, _≤_}
-use mathlib.Core.Path.{_≡_, subst}
-use mathlib.Core.Logic.{⊎-elim}
-use borrow.Author.Tests.{leb-true, leb-false}
-use lib.ListN.{length, getD}
-use native.Mathlib.Omega.{arith}
-use native.Mathlib.Numerals.{add-one}
-use denote.Ref.{now}
+use Rattle.tables.proofs.Kit.{suc, _-_, _≤_, _≡_, subst, ⊎-elim, leb-true, leb-false, length, getD, arith, add-one, now}
 use Rattle.marking.proofs.Starts.{Ascends, ascends-start, ascends-more, ascends-low}
 use Rattle.marking.proofs.starts_right.Statement.{statement}
 use Rattle.marking.proofs.starts_right.Tie as tie

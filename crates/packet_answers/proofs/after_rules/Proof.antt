@@ -1,12 +1,7 @@
 -- `packet_answers::after_rules` meets its contract: the answer of the check decides. Assumes nothing.
-use mathlib.Core.Path.{refl, subst}
-use mathlib.Core.Logic.{inl, inr, ⊎-elim}
-use denote.Ref.{now}
-use Rattle.tables.specs.Document.{documentOf}
-use Rattle.tables.specs.Checks.{ChecksDocument}
-use Rattle.tables.specs.declared.Refusal.the-variants.{BadDocument}
+use Rattle.tables.proofs.Kit.{refl, subst, inl, inr, ⊎-elim, now, needs}
+use Rattle.tables.specs.{Document.documentOf, Checks.ChecksDocument, declared.Refusal.the-variants.BadDocument}
 use Rattle.tables.proofs.Refusals.{number-unique}
-use borrow.Author.Needs.{needs}
 use Rattle.packet_answers.proofs.after_rules.Statement.{statement}
 use Rattle.packet_answers.proofs.after_rules.Tie as tie
 

@@ -1,13 +1,7 @@
 -- `packet_answers::answer_packets` meets its contract: both packets are read, the answers found and written. Assumes nothing.
-use Prim.Native.Nat.{_≤_}
-use mathlib.Core.Path.{refl}
-use lib.ListN.{length, replicate, length-take}
+use Rattle.tables.proofs.Kit.{_≤_, refl, length, replicate, length-take, arith, now, needs}
 use Rattle.packet_answers.specs.inner.Reading.{BothRead}
-use Rattle.packet_answers.proofs.ReadingCalls.{both-few}
-use Rattle.packet_answers.proofs.DocumentCalls.{answers-unread, answers-refused, answers-count, answers-put}
-use native.Mathlib.Omega.{arith}
-use denote.Ref.{now}
-use borrow.Author.Needs.{needs}
+use Rattle.packet_answers.proofs.{ReadingCalls.both-few, DocumentCalls.{answers-unread, answers-refused, answers-count, answers-put}}
 use Rattle.packet_answers.proofs.answer_packets.Statement.{statement}
 use Rattle.packet_answers.proofs.answer_packets.Tie as tie
 

@@ -1,8 +1,5 @@
 -- `packet_answers::put_answers` meets its contract: the room, and then the answers. Assumes nothing.
-use mathlib.Core.Path.{refl}
-use mathlib.Core.Logic.{inl}
-use native.Mathlib.Omega.{arith}
-use borrow.Author.Needs.{needs}
+use Rattle.tables.proofs.Kit.{refl, inl, arith, needs}
 use Rattle.packet_answers.proofs.put_answers.Statement.{statement}
 use Rattle.packet_answers.proofs.put_answers.Tie as tie
 

@@ -1,11 +1,7 @@
 -- `packet_answers::read_nodes_and_pattern` meets its contract: the nodes and the pattern are read, and the rules come before a refusal of the pattern.
 -- Assumes nothing.
-use Prim.Native.Nat.{_≤_}
-use lib.ListN.{length, length-take}
+use Rattle.tables.proofs.Kit.{_≤_, length, length-take, arith, now, needs}
 use Rattle.packet_answers.proofs.ReadingCalls.{both-no-nodes, nodes-few, both-no-pattern, both-right}
-use native.Mathlib.Omega.{arith}
-use denote.Ref.{now}
-use borrow.Author.Needs.{needs}
 use Rattle.packet_answers.proofs.read_nodes_and_pattern.Statement.{statement}
 use Rattle.packet_answers.proofs.read_nodes_and_pattern.Tie as tie
 

@@ -1,16 +1,7 @@
 -- `packet_answers::start_packets` meets its contract: both packets and the start nodes are read, the answers found and written. Assumes nothing.
-use Prim.Native.Nat.{ℕ, _/_, _%_, _≤_}
-use mathlib.Core.Path.{_≡_, refl}
-use mathlib.Core.Logic.{inl, inr, ⊎-elim}
-use mathlib.Core.List.{List}
-use lib.ListN.{length, replicate, length-take}
+use Rattle.tables.proofs.Kit.{ℕ, _/_, _%_, _≤_, _≡_, refl, inl, inr, ⊎-elim, List, length, replicate, length-take, ltb-true, ltb-false, arith, now, needs}
 use Rattle.packet_answers.specs.inner.Reading.{BothRead}
-use Rattle.packet_answers.proofs.ReadingCalls.{both-few}
-use borrow.Author.Tests.{ltb-true, ltb-false}
-use Rattle.packet_answers.proofs.StartCalls.{starts-unread, starts-none, starts-refused, starts-count, starts-put}
-use native.Mathlib.Omega.{arith}
-use denote.Ref.{now}
-use borrow.Author.Needs.{needs}
+use Rattle.packet_answers.proofs.{ReadingCalls.both-few, StartCalls.{starts-unread, starts-none, starts-refused, starts-count, starts-put}}
 use Rattle.packet_answers.proofs.start_packets.Statement.{statement}
 use Rattle.packet_answers.proofs.start_packets.Tie as tie
 

@@ -1,9 +1,7 @@
 -- `packet_lists::list_started` meets its contract: the packet is read, and the call answers. Assumes nothing.
-use mathlib.Core.Path.{refl}
+use Rattle.tables.proofs.Kit.{refl, now, needs}
 use Rattle.tables.specs.Document.{documentOf}
 use Rattle.packet_lists.proofs.ListCalls.{started-unread, started-read}
-use denote.Ref.{now}
-use borrow.Author.Needs.{needs}
 use Rattle.packet_lists.proofs.list_started.Statement.{statement}
 use Rattle.packet_lists.proofs.list_started.Tie as tie
 

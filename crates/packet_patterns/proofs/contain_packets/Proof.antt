@@ -1,11 +1,7 @@
 -- `packet_patterns::contain_packets` meets its contract: both packets are read, and what containment answers is written. Assumes nothing.
-use Prim.Native.Nat.{_≤_}
-use mathlib.Core.Path.{refl}
-use lib.ListN.{length, length-take}
+use Rattle.tables.proofs.Kit.{_≤_, refl, length, length-take, arith, needs}
 use Rattle.packets.proofs.Views.{two-valid}
 use Rattle.packet_patterns.proofs.ContainCalls.{contains-unread, contains-refused, contains-within, apart-few, contains-apart}
-use native.Mathlib.Omega.{arith}
-use borrow.Author.Needs.{needs}
 use Rattle.packet_patterns.proofs.contain_packets.Statement.{statement}
 use Rattle.packet_patterns.proofs.contain_packets.Tie as tie
 

@@ -1,9 +1,6 @@
 -- `packet_patterns::copy_packet` meets its contract: the packet is read and written. Assumes nothing.
-use mathlib.Core.Path.{refl}
+use Rattle.tables.proofs.Kit.{refl, arith, now, needs}
 use Rattle.packet_patterns.proofs.PatternCalls.{copy-unread, copy-written}
-use native.Mathlib.Omega.{arith}
-use denote.Ref.{now}
-use borrow.Author.Needs.{needs}
 use Rattle.packet_patterns.proofs.copy_packet.Statement.{statement}
 use Rattle.packet_patterns.proofs.copy_packet.Tie as tie
 

@@ -1,7 +1,6 @@
 -- `packet_patterns::join_packets` meets its contract: both packets are read, joined and written. Assumes nothing.
-use mathlib.Core.Path.{refl}
+use Rattle.tables.proofs.Kit.{refl, needs}
 use Rattle.packet_patterns.proofs.PatternCalls.{join-unread, join-refused, join-written}
-use borrow.Author.Needs.{needs}
 use Rattle.packet_patterns.proofs.join_packets.Statement.{statement}
 use Rattle.packet_patterns.proofs.join_packets.Tie as tie
 

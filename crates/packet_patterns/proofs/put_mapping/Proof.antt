@@ -1,15 +1,7 @@
 -- `packet_patterns::put_mapping` meets its contract: the room, and then the steps before the one looked at are written. Assumes nothing.
-use Prim.Native.Nat.{_+_, _-_, _≤_}
-use mathlib.Core.Path.{_≡_, refl}
-use mathlib.Core.Logic.{inl}
-use mathlib.Core.List.{_++_}
-use lib.ListN.{length, getD, drop, length-set}
-use Rattle.tables.specs.Column.{blocks, column}
+use Rattle.tables.proofs.Kit.{_+_, _-_, _≤_, _≡_, refl, inl, _++_, length, getD, drop, length-set, arith, now, needs}
+use Rattle.tables.specs.Column.{blocks, column, stepNo}
 use Rattle.tables.proofs.Columns.{column-next}
-use Rattle.tables.specs.Column.{stepNo}
-use native.Mathlib.Omega.{arith}
-use denote.Ref.{now}
-use borrow.Author.Needs.{needs}
 use Rattle.packet_patterns.proofs.put_mapping.Statement.{statement}
 use Rattle.packet_patterns.proofs.put_mapping.Tie as tie
 

@@ -1,11 +1,7 @@
 -- `packet_patterns::put_witness` meets its contract: the room, a document and then a node. Assumes nothing.
-use mathlib.Core.Path.{refl}
-use mathlib.Core.Logic.{inl}
+use Rattle.tables.proofs.Kit.{refl, inl, arith, now, needs}
 use Rattle.tables.specs.Document.{documentOf}
 use Rattle.packet_patterns.proofs.Shown.{written-node}
-use native.Mathlib.Omega.{arith}
-use denote.Ref.{now}
-use borrow.Author.Needs.{needs}
 use Rattle.packet_patterns.proofs.put_witness.Statement.{statement}
 use Rattle.packet_patterns.proofs.put_witness.Tie as tie
 

@@ -1,8 +1,7 @@
 -- `packet_patterns::rewrite_packets` meets its contract: both packets are read, and what rewriting hands over is written. Assumes nothing.
-use mathlib.Core.Path.{refl}
+use Rattle.tables.proofs.Kit.{refl, needs}
 use Rattle.packets.proofs.Views.{two-valid}
 use Rattle.packet_patterns.proofs.PatternCalls.{rewrite-unread, rewrite-refused, rewrite-none, rewrite-handed}
-use borrow.Author.Needs.{needs}
 use Rattle.packet_patterns.proofs.rewrite_packets.Statement.{statement}
 use Rattle.packet_patterns.proofs.rewrite_packets.Tie as tie
 

@@ -1,11 +1,5 @@
 -- `packets::copy` meets its contract: the numbers before the one looked at stand in the list, which keeps its other entries. Assumes nothing.
-use Prim.Native.Nat.{_-_, _≤_}
-use mathlib.Core.Path.{_≡_}
-use mathlib.Core.List.{_++_}
-use native.Mathlib.Omega.{arith}
-use lib.ListN.{length, take, drop, length-set}
-use denote.Ref.{now}
-use borrow.Author.Needs.{needs}
+use Rattle.tables.proofs.Kit.{_-_, _≤_, _≡_, _++_, arith, length, take, drop, length-set, now, needs}
 use Rattle.packets.proofs.Reading.{copy-next}
 use Rattle.packets.proofs.copy.Statement.{statement}
 use Rattle.packets.proofs.copy.Tie as tie

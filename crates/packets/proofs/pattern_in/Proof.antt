@@ -1,11 +1,8 @@
 -- `packets::pattern_in` meets its contract: the steps before the one looked at stand in the three arrays, with zeros after them. Assumes nothing.
-use Prim.Native.Nat.{_-_}
-use mathlib.Core.Path.{refl}
+use Rattle.tables.proofs.Kit.{_-_, refl, arith, now}
 use Rattle.tables.specs.Pattern.{tableOf}
 use Rattle.tables.proofs.Filling.{Filled, filled-none, filled-next, filled-all}
 use Rattle.packets.specs.PatternPacket.{packetShape}
-use native.Mathlib.Omega.{arith}
-use denote.Ref.{now}
 use Rattle.packets.proofs.pattern_in.Statement.{statement}
 use Rattle.packets.proofs.pattern_in.Tie as tie
 

@@ -1,8 +1,5 @@
 -- `packets::put_document` meets its contract: the header and the nodes before the one looked at are written. Assumes nothing.
-use Prim.Native.Nat.{_+_, _*_, _-_, _≤_}
-use mathlib.Core.Path.{_≡_, refl, _∙_}
-use native.Mathlib.Omega.{arith}
-use denote.Ref.{now}
+use Rattle.tables.proofs.Kit.{_+_, _*_, _-_, _≤_, _≡_, refl, _∙_, arith, now}
 use Rattle.tables.specs.Document.{nodeCount, documentOf}
 use Rattle.packets.specs.DocumentPacket.{nodeBytes, documentPacket, sizeOf}
 use Rattle.packets.proofs.DocumentTrip.{head, node-four}

@@ -1,13 +1,7 @@
 -- `packets::put_head` meets its contract: a byte and then a number. Assumes nothing.
-use mathlib.Core.Path.{refl, _∙_}
-use mathlib.Core.List.{[], _∷_}
-use native.Mathlib.Omega.{arith}
-use lib.ListN.{length-set}
-use lib.Seq.{sets-eq}
-use denote.Ref.{now}
+use Rattle.tables.proofs.Kit.{refl, _∙_, [], _∷_, arith, length-set, sets-eq, now, needs}
 use Rattle.halves.specs.Bytes.{high, low}
 use Rattle.halves.proofs.Rows.{put-two}
-use borrow.Author.Needs.{needs}
 use Rattle.packets.proofs.put_head.Statement.{statement}
 use Rattle.packets.proofs.put_head.Tie as tie
 

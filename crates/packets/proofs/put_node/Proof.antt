@@ -1,12 +1,7 @@
 -- `packets::put_node` meets its contract: a number and then another. Assumes nothing.
-use Prim.Native.Nat.{_+_}
-use mathlib.Core.Path.{_≡_, refl}
-use mathlib.Core.List.{[], _∷_}
-use native.Mathlib.Omega.{arith}
-use denote.Ref.{now}
+use Rattle.tables.proofs.Kit.{_+_, _≡_, refl, [], _∷_, arith, now, needs}
 use Rattle.halves.specs.Bytes.{high, low}
 use Rattle.halves.proofs.Rows.{put-two}
-use borrow.Author.Needs.{needs}
 use Rattle.packets.proofs.put_node.Statement.{statement}
 use Rattle.packets.proofs.put_node.Tie as tie
 

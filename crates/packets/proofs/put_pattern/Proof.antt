@@ -1,10 +1,5 @@
 -- `packets::put_pattern` meets its contract: the header and the steps before the one looked at are written. Assumes nothing.
-use Prim.Native.Nat.{ℕ, _+_, _*_, _-_, _≤_}
-use mathlib.Core.Path.{_≡_, refl, ap, _∙_}
-use mathlib.Core.List.{List, [], _∷_, _++_}
-use native.Mathlib.Omega.{arith}
-use lib.ListN.{length, set, drop, length-set}
-use denote.Ref.{now}
+use Rattle.tables.proofs.Kit.{ℕ, _+_, _*_, _-_, _≤_, _≡_, refl, ap, _∙_, List, [], _∷_, _++_, arith, length, set, drop, length-set, now}
 use Rattle.tables.specs.Pattern.{Shape, shapeOf}
 use Rattle.tables.proofs.Columns.{put-next}
 use Rattle.halves.specs.Bytes.{high, low}

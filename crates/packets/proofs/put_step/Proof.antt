@@ -1,14 +1,7 @@
 -- `packets::put_step` meets its contract: two bytes and then a number. Assumes nothing.
-use Prim.Native.Nat.{suc, _+_}
-use mathlib.Core.Path.{_≡_, refl, _∙_}
-use mathlib.Core.List.{[], _∷_}
-use native.Mathlib.Omega.{arith}
-use lib.ListN.{length-set}
-use lib.Seq.{sets-eq}
-use denote.Ref.{now}
+use Rattle.tables.proofs.Kit.{suc, _+_, _≡_, refl, _∙_, [], _∷_, arith, length-set, sets-eq, now, needs}
 use Rattle.halves.specs.Bytes.{high, low}
 use Rattle.halves.proofs.Rows.{put-two}
-use borrow.Author.Needs.{needs}
 use Rattle.packets.proofs.put_step.Statement.{statement}
 use Rattle.packets.proofs.put_step.Tie as tie
 

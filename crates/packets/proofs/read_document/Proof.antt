@@ -1,22 +1,11 @@
 -- `packets::read_document` meets its contract: the nodes are read into lists of its own, checked there, and copied where there is room. Assumes nothing.
-use Prim.Native.Nat.{ℕ, _≤_}
-use mathlib.Core.Path.{_≡_, refl, ap, _∙_, subst}
-use mathlib.Core.Logic.{inl, ⊎-elim}
-use mathlib.Core.List.{List, _++_}
-use native.Mathlib.Omega.{arith}
-use lib.ListN.{length, take, drop, replicate, length-take, length-replicate}
-use denote.Ref.{now}
-use borrow.Author.Tests.{ltb-true, ltb-false}
-use Rattle.tables.specs.Checks.{documentRight, ChecksDocument}
-use Rattle.tables.specs.Document.{ValidDocument, documentOf}
-use Rattle.tables.specs.declared.Counted.the-variants.{Count}
-use Rattle.tables.specs.declared.Refusal.the-variants.{Room}
+use Rattle.tables.proofs.Kit.{ℕ, _≤_, _≡_, refl, ap, _∙_, subst, inl, ⊎-elim, List, _++_, arith}
+use Rattle.tables.proofs.Kit.{length, take, drop, replicate, length-take, length-replicate, now, ltb-true, ltb-false, needs}
+use Rattle.tables.specs.{Checks.{documentRight, ChecksDocument}, Document.{ValidDocument, documentOf}}
+use Rattle.tables.specs.{declared.Counted.the-variants.Count, declared.Refusal.the-variants.Room}
 use Rattle.tables.proofs.Outcomes.{refuses-front, refuses-rest, passes-both, passes-front}
-use Rattle.packets.specs.Header.{headChecks}
-use Rattle.packets.specs.DocumentPacket.{packetDocument, documentRules, listsCheck, ReadsNodes}
-use Rattle.packets.proofs.Views.{Head, head-of, head-passes, nodes-few, read-document-passes}
-use Rattle.packets.proofs.Reading.{document-fronts, nodes-refused}
-use borrow.Author.Needs.{needs}
+use Rattle.packets.specs.{Header.headChecks, DocumentPacket.{packetDocument, documentRules, listsCheck, ReadsNodes}}
+use Rattle.packets.proofs.{Views.{Head, head-of, head-passes, nodes-few, read-document-passes}, Reading.{document-fronts, nodes-refused}}
 use Rattle.packets.proofs.read_document.Statement.{statement}
 use Rattle.packets.proofs.read_document.Tie as tie
 

@@ -1,21 +1,10 @@
 -- `packets::read_nodes` meets its contract: the header's checks, the room, and then the two lists. Assumes nothing.
-use Prim.Native.Nat.{ℕ, _+_, _*_}
-use mathlib.Core.Path.{_≡_, refl, ap, _∙_, subst}
-use mathlib.Core.Logic.{inl, ⊎-elim}
-use mathlib.Core.List.{_++_}
-use native.Mathlib.Omega.{arith}
-use lib.ListN.{length, drop}
-use denote.Ref.{now}
-use borrow.Author.Tests.{ltb-true, ltb-false}
-use Rattle.tables.specs.Column.{column}
-use Rattle.tables.specs.declared.Counted.the-variants.{Count}
-use Rattle.tables.specs.declared.Refusal.the-variants.{Room}
+use Rattle.tables.proofs.Kit.{ℕ, _+_, _*_, _≡_, refl, ap, _∙_, subst, inl, ⊎-elim, _++_, arith, length, drop, now, ltb-true, ltb-false, needs}
+use Rattle.tables.specs.{Column.column, declared.Counted.the-variants.Count, declared.Refusal.the-variants.Room}
 use Rattle.tables.proofs.Outcomes.{refuses-front, refuses-rest, passes-both}
 use Rattle.halves.specs.Bytes.{half}
-use Rattle.packets.specs.Header.{headChecks}
-use Rattle.packets.specs.DocumentPacket.{packetDocument, listsCheck}
+use Rattle.packets.specs.{Header.headChecks, DocumentPacket.{packetDocument, listsCheck}}
 use Rattle.packets.proofs.Reading.{Headed}
-use borrow.Author.Needs.{needs}
 use Rattle.packets.proofs.read_nodes.Statement.{statement}
 use Rattle.packets.proofs.read_nodes.Tie as tie
 

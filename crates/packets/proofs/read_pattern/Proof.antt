@@ -1,15 +1,9 @@
 -- `packets::read_pattern` meets its contract: the header's checks and the pattern's, one after the other. Assumes nothing.
-use mathlib.Core.Path.{subst}
-use native.Mathlib.Omega.{arith}
-use denote.Ref.{now}
-use Rattle.tables.specs.Checks.{patternRight, ChecksPattern}
-use Rattle.tables.specs.Refusal.{Passes, Refuses}
-use Rattle.tables.specs.declared.Counted.the-variants.{Count}
+use Rattle.tables.proofs.Kit.{subst, arith, now, needs}
+use Rattle.tables.specs.{Checks.{patternRight, ChecksPattern}, Refusal.{Passes, Refuses}, declared.Counted.the-variants.Count}
 use Rattle.tables.proofs.Outcomes.{refuses-front, refuses-rest, passes-both}
-use Rattle.packets.specs.Header.{headChecks}
-use Rattle.packets.specs.PatternPacket.{packetPattern}
+use Rattle.packets.specs.{Header.headChecks, PatternPacket.packetPattern}
 use Rattle.packets.proofs.Reading.{Headed}
-use borrow.Author.Needs.{needs}
 use Rattle.packets.proofs.read_pattern.Statement.{statement}
 use Rattle.packets.proofs.read_pattern.Tie as tie
 

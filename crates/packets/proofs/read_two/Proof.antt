@@ -1,7 +1,6 @@
 -- `packets::read_two` meets its contract: the answer of the first packet comes before that of the second. Assumes nothing.
-use denote.Ref.{now}
+use Rattle.tables.proofs.Kit.{now, needs}
 use Rattle.packets.proofs.Views.{first-refused, first-read}
-use borrow.Author.Needs.{needs}
 use Rattle.packets.proofs.read_two.Statement.{statement}
 use Rattle.packets.proofs.read_two.Tie as tie
 

@@ -1,13 +1,7 @@
 -- `packets::rows_in` meets its contract: each test decides its part of a check. Assumes nothing.
-use Prim.Native.Nat.{ℕ, _+_, _/_, _%_}
-use mathlib.Core.Path.{refl}
-use mathlib.Core.Logic.{inl, inr, ⊎-elim}
-use native.Mathlib.Omega.{arith}
-use lib.ListN.{length}
-use denote.Ref.{now}
+use Rattle.tables.proofs.Kit.{ℕ, _+_, _/_, _%_, refl, inl, inr, ⊎-elim, arith, length, now}
+use Rattle.tables.proofs.Kit.{ltb-true, ltb-false, eqb-true, eqb-false, not-true, not-false, needs}
 use Rattle.packets.specs.Header.{Sized}
-use borrow.Author.Tests.{ltb-true, ltb-false, eqb-true, eqb-false, not-true, not-false}
-use borrow.Author.Needs.{needs}
 use Rattle.packets.proofs.rows_in.Statement.{statement}
 use Rattle.packets.proofs.rows_in.Tie as tie
 

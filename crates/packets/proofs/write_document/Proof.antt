@@ -1,11 +1,6 @@
 -- `packets::write_document` meets its contract: the rules, the room, and then the packet. Assumes nothing.
-use mathlib.Core.Path.{refl, subst}
-use mathlib.Core.Logic.{inl, inr, ⊎-elim}
-use native.Mathlib.Omega.{arith}
-use denote.Ref.{now}
-use Rattle.tables.specs.Checks.{ChecksDocument}
-use Rattle.tables.specs.Document.{Document, ValidDocument, documentOf}
-use borrow.Author.Needs.{needs}
+use Rattle.tables.proofs.Kit.{refl, subst, inl, inr, ⊎-elim, arith, now, needs}
+use Rattle.tables.specs.{Checks.ChecksDocument, Document.{Document, ValidDocument, documentOf}}
 use Rattle.packets.proofs.write_document.Statement.{statement}
 use Rattle.packets.proofs.write_document.Tie as tie
 

@@ -1,16 +1,7 @@
 -- `packets::write_pattern` meets its contract: the rules, the room, and then the packet. Assumes nothing.
-use Prim.Native.Nat.{ℕ}
-use mathlib.Core.Path.{_≡_, refl, sym, ap, _∙_, subst}
-use mathlib.Core.Logic.{inl, inr, ⊎-elim}
-use mathlib.Core.List.{List, _++_}
-use native.Mathlib.Omega.{arith}
-use lib.ListN.{drop}
-use denote.Ref.{now}
-use Rattle.tables.specs.Checks.{ChecksPattern}
-use Rattle.tables.specs.Pattern.{shapeOf, ValidPattern}
-use Rattle.tables.specs.declared.Pattern.{Pattern}
+use Rattle.tables.proofs.Kit.{ℕ, _≡_, refl, sym, ap, _∙_, subst, inl, inr, ⊎-elim, List, _++_, arith, drop, now, needs}
+use Rattle.tables.specs.{Checks.ChecksPattern, Pattern.{shapeOf, ValidPattern}, declared.Pattern.Pattern}
 use Rattle.packets.specs.PatternPacket.{patternPacket, lengthOf, PacketPut}
-use borrow.Author.Needs.{needs}
 use Rattle.packets.proofs.write_pattern.Statement.{statement}
 use Rattle.packets.proofs.write_pattern.Tie as tie
 

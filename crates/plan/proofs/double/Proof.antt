@@ -1,6 +1,5 @@
 -- `plan::double` meets its contract. The loop's invariant: u of the new entries are written, the others are as they were. Assumes nothing.
-use Prim.Native.Nat.{_-_, _≤_}
-use native.Mathlib.Omega.{arith}
+use Rattle.tables.proofs.Kit.{_-_, _≤_, arith}
 use Rattle.plan.proofs.Bytes.{Doubling, doubling-none, doubling-more, doubling-all}
 use Rattle.plan.proofs.double.Statement.{statement}
 use Rattle.plan.proofs.double.Tie as tie

@@ -1,13 +1,7 @@
 -- `plan::gather` meets its contract. The loop's invariant: the sets have the steps from 1 on and below t, and these stand as bits at their parents and have
 -- their own. Assumes nothing.
-use Prim.Native.Nat.{ℕ, _+_, _-_, _≤_, _<_}
-use mathlib.Core.Path.{_≡_}
-use mathlib.Core.Logic.{⊎-elim}
-use native.Mathlib.Omega.{arith}
-use lib.ListN.{length-replicate, length-set, getD, length}
-use Rattle.tables.specs.Bits.{Marks}
-use Rattle.tables.specs.Column.{stepNo}
-use Rattle.tables.specs.Pattern.{shapeOf}
+use Rattle.tables.proofs.Kit.{ℕ, _+_, _-_, _≤_, _<_, _≡_, ⊎-elim, arith, length-replicate, length-set, getD, length}
+use Rattle.tables.specs.{Bits.Marks, Column.stepNo, Pattern.shapeOf}
 use Rattle.tables.proofs.MarkTables.{parent-few, children-all, Among, among-none, among-skip, among-more, Keyed, keyed-none, keyed-more}
 use Rattle.plan.proofs.Steps.{Pointed, pointed-none, pointed-more, Forking, forking-none, forking-skip, forking-more, forks-all, parents-all}
 use Rattle.plan.proofs.gather.Statement.{statement}

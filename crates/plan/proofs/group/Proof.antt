@@ -1,10 +1,5 @@
 -- `plan::group` meets its contract. The loop's invariant: the steps before s have had their turn. Assumes nothing.
-use Prim.Native.Nat.{_-_, _≤_}
-use mathlib.Core.Path.{_≡_, refl, ap}
-use mathlib.Core.Logic.{⊎-elim}
-use native.Mathlib.Omega.{arith}
-use denote.Ref.{now}
-use lib.ListN.{length, length-set}
+use Rattle.tables.proofs.Kit.{_-_, _≤_, _≡_, refl, ap, ⊎-elim, arith, now, length, length-set}
 use Rattle.plan.specs.Leading.{Groups}
 use Rattle.plan.proofs.Groups.{groups-none, groups-skip, groups-more}
 use Rattle.plan.proofs.group.Statement.{statement}

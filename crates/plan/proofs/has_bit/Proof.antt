@@ -1,8 +1,7 @@
 -- `plan::has_bit` meets its contract: the flag of an equality tells it. Assumes nothing.
-use Prim.Native.Nat.{_/_, _%_, _^_}
+use Rattle.tables.proofs.Kit.{_/_, _%_, _^_, needs}
 use Rattle.tables.specs.Bits.{bit}
 use Rattle.tables.proofs.Tests.{tells-eq}
-use borrow.Author.Needs.{needs}
 use Rattle.plan.proofs.has_bit.Statement.{statement}
 use Rattle.plan.proofs.has_bit.Tie as tie
 

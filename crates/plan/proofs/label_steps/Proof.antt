@@ -1,8 +1,5 @@
 -- `plan::label_steps` meets its contract. The loop's invariant: the steps below s stand in both tables, by the bytes of their labels. Assumes nothing.
-use Prim.Native.Nat.{ℕ, _-_, _/_, _%_, _≤_, _<_}
-use mathlib.Core.Path.{_≡_}
-use native.Mathlib.Omega.{arith}
-use lib.ListN.{length-replicate, length-set, getD, length}
+use Rattle.tables.proofs.Kit.{ℕ, _-_, _/_, _%_, _≤_, _<_, _≡_, arith, length-replicate, length-set, getD, length}
 use Rattle.tables.specs.Pattern.{shapeOf}
 use Rattle.tables.proofs.MarkTables.{label-small, Keyed, keyed-none, keyed-more}
 use Rattle.plan.proofs.Steps.{labelled-all}

@@ -1,7 +1,6 @@
 -- `plan::lacking` meets its contract: by the table where a step of the mask is forked, else by the shift. Assumes nothing.
-use native.Mathlib.Omega.{arith}
+use Rattle.tables.proofs.Kit.{arith, needs}
 use Rattle.plan.proofs.FitSteps.{lacking-table, lacking-shift}
-use borrow.Author.Needs.{needs}
 use Rattle.plan.proofs.lacking.Statement.{statement}
 use Rattle.plan.proofs.lacking.Tie as tie
 

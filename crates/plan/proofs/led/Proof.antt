@@ -1,10 +1,8 @@
 -- `plan::led` meets its contract: by the table where a step of x is forked, else by the shift. Assumes nothing.
-use native.Mathlib.Omega.{arith}
+use Rattle.tables.proofs.Kit.{arith, needs}
 use Rattle.tables.specs.Tree.{Child}
 use Rattle.tables.proofs.Marks.{bits-lt}
-use Rattle.plan.proofs.Bytes.{look-up-led}
-use Rattle.plan.proofs.Shifts.{shift-up}
-use borrow.Author.Needs.{needs}
+use Rattle.plan.proofs.{Bytes.look-up-led, Shifts.shift-up}
 use Rattle.plan.proofs.led.Statement.{statement}
 use Rattle.plan.proofs.led.Tie as tie
 

@@ -1,8 +1,5 @@
 -- `plan::look_up` meets its contract. The loop's invariant: `r` is what the first c bytes find. Assumes nothing.
-use Prim.Native.Nat.{_-_, _≤_}
-use mathlib.Core.Path.{_≡_, refl}
-use native.Mathlib.Numerals.{add-one}
-use native.Mathlib.Omega.{arith}
+use Rattle.tables.proofs.Kit.{_-_, _≤_, _≡_, refl, add-one, arith}
 use Rattle.plan.specs.Leading.{lookUp}
 use Rattle.plan.proofs.look_up.Statement.{statement}
 use Rattle.plan.proofs.look_up.Tie as tie

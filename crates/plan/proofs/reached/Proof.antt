@@ -1,9 +1,5 @@
 -- `plan::reached` meets its contract. The loop's invariant: `x` has what the entries before k give. Assumes nothing.
-use Prim.Native.Nat.{_-_, _≤_}
-use mathlib.Core.Path.{_≡_}
-use mathlib.Core.Logic.{⊎-elim}
-use native.Mathlib.Omega.{arith}
-use denote.Ref.{now}
+use Rattle.tables.proofs.Kit.{_-_, _≤_, _≡_, ⊎-elim, arith, now}
 use Rattle.tables.specs.Bits.{Marks}
 use Rattle.plan.specs.Leading.{Reached}
 use Rattle.plan.proofs.Groups.{reached-none, reached-skip, reached-more}

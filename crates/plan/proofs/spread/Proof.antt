@@ -1,12 +1,6 @@
 -- `plan::spread` meets its contract. The loop's invariant: the table is that of the first t steps. Assumes nothing.
-use Prim.Native.Nat.{_-_, _%_, _≤_}
-use denote.Ref.{now}
-use mathlib.Core.Path.{_≡_}
-use native.Mathlib.Omega.{arith}
-use lib.Pow.{pow-mono}
-use lib.ListN.{getD}
-use Rattle.tables.proofs.Bits.{shl-one}
-use Rattle.tables.proofs.Marks.{marks-bits}
+use Rattle.tables.proofs.Kit.{_-_, _%_, _≤_, now, _≡_, arith, pow-mono, getD}
+use Rattle.tables.proofs.{Bits.shl-one, Marks.marks-bits}
 use Rattle.tables.specs.Bits.{bit}
 use Rattle.plan.specs.Leading.{Spread}
 use Rattle.plan.proofs.Bytes.{spread-none, spread-more}

@@ -1,14 +1,6 @@
 -- `rewriting::agree` meets its contract: the steps looked at stand as deep as each other in the two main paths. Assumes nothing.
-use Prim.Native.Nat.{ℕ, _<_}
-use mathlib.Core.Path.{_≡_, refl, sym, ap, _∙_}
-use mathlib.Core.Logic.{_⊎_, inl, inr, ⊎-elim}
-use native.Mathlib.Omega.{arith}
-use native.Mathlib.Nat.{eq-zero-or-pos}
-use lib.Dec.{eqb}
-use lib.ListN.{getD}
-use Rattle.tables.specs.Column.{stepNo}
-use Rattle.tables.specs.Pattern.{shapeOf}
-use Rattle.tables.specs.declared.Pattern.{Pattern}
+use Rattle.tables.proofs.Kit.{ℕ, _<_, _≡_, refl, sym, ap, _∙_, _⊎_, inl, inr, ⊎-elim, arith, eq-zero-or-pos, eqb, getD}
+use Rattle.tables.specs.{Column.stepNo, Pattern.shapeOf, declared.Pattern.Pattern}
 use Rattle.tables.proofs.Tests.{failed, tells-eq}
 use Rattle.rewriting.proofs.Paths.{Level, level-start, query-here, view-here, level-up, labels-agree, axes-agree}
 use Rattle.rewriting.proofs.agree.Statement.{statement}

@@ -1,14 +1,9 @@
 -- `rewriting::candidate` meets its contract: the main paths, the label, and then the cut. Assumes nothing.
-use Prim.Native.Nat.{_-_, _≤_}
-use mathlib.Core.Path.{_≡_, sym, ap, _∙_, subst}
-use native.Mathlib.Omega.{arith}
-use lib.ListN.{length, getD}
-use Rattle.tables.specs.Tree.{From}
-use Rattle.tables.specs.Pattern.{shapeOf}
+use Rattle.tables.proofs.Kit.{_-_, _≤_, _≡_, sym, ap, _∙_, subst, arith, length, getD, needs}
+use Rattle.tables.specs.{Tree.From, Pattern.shapeOf}
 use Rattle.tables.proofs.Tests.{passed, failed}
 use Rattle.rewriting.specs.Candidate.{mainPath, cutStep, Cut}
 use Rattle.rewriting.proofs.MainPath.{main-length, cut-on-path}
-use borrow.Author.Needs.{needs}
 use Rattle.rewriting.proofs.candidate.Statement.{statement}
 use Rattle.rewriting.proofs.candidate.Tie as tie
 

@@ -1,13 +1,8 @@
 -- `rewriting::cut` meets its contract: step 0 is written first, then the steps before the one looked at. Assumes nothing.
-use Prim.Native.Nat.{_+_, _-_, _≤_, _<_}
-use mathlib.Core.Path.{_≡_, refl, sym, ap}
-use native.Mathlib.Omega.{arith}
-use lib.ListN.{getD}
-use Rattle.tables.specs.Column.{stepNo}
-use Rattle.tables.specs.Pattern.{shapeOf, tableOf}
+use Rattle.tables.proofs.Kit.{_+_, _-_, _≤_, _<_, _≡_, refl, sym, ap, arith, getD}
+use Rattle.tables.specs.{Column.stepNo, Pattern.{shapeOf, tableOf}}
 use Rattle.tables.proofs.Filling.{Filled, filled-none, filled-next, filled-all}
-use Rattle.rewriting.proofs.Cuts.{cutShape, at-late}
-use Rattle.rewriting.proofs.CutTable.{cut-here, cut-is, cut-rules, whole-size, cut-late}
+use Rattle.rewriting.proofs.{Cuts.{cutShape, at-late}, CutTable.{cut-here, cut-is, cut-rules, whole-size, cut-late}}
 use Rattle.rewriting.proofs.cut.Statement.{statement}
 use Rattle.rewriting.proofs.cut.Tie as tie
 

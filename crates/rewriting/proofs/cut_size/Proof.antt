@@ -1,6 +1,5 @@
 -- `rewriting::cut_size` meets its contract: the steps from c up to the one looked at are c or below it. Assumes nothing.
-use Prim.Native.Nat.{_-_}
-use borrow.Author.Needs.{needs}
+use Rattle.tables.proofs.Kit.{_-_, needs}
 use Rattle.tables.specs.Pattern.{shapeOf}
 use Rattle.tables.proofs.Rules.{shape-ordered}
 use Rattle.rewriting.proofs.CutSize.{Taken, taken-one, taken-next, taken-end, taken-stop}

@@ -1,9 +1,7 @@
 -- `rewriting::main_length` meets its contract: it counts the steps of a climb. Assumes nothing.
-use native.Mathlib.Omega.{arith}
-use borrow.Author.Needs.{needs}
+use Rattle.tables.proofs.Kit.{arith, needs}
 use Rattle.tables.specs.Pattern.{shapeOf}
-use Rattle.rewriting.proofs.MainClimb.{Climbed, climbed-none, climbed-up, climbed-all}
-use Rattle.rewriting.proofs.MainPath.{main-length}
+use Rattle.rewriting.proofs.{MainClimb.{Climbed, climbed-none, climbed-up, climbed-all}, MainPath.main-length}
 use Rattle.rewriting.proofs.main_length.Statement.{statement}
 use Rattle.rewriting.proofs.main_length.Tie as tie
 

@@ -1,10 +1,7 @@
 -- `rewriting::main_step` meets its contract: it climbs as often as it is told. Assumes nothing.
-use Prim.Native.Nat.{_-_, _≤_}
-use native.Mathlib.Omega.{arith}
-use borrow.Author.Needs.{needs}
+use Rattle.tables.proofs.Kit.{_-_, _≤_, arith, needs}
 use Rattle.tables.specs.Pattern.{shapeOf}
-use Rattle.rewriting.proofs.MainClimb.{Climbed, climbed-none, climbed-up, climbed-late}
-use Rattle.rewriting.proofs.MainPath.{main-length, main-at}
+use Rattle.rewriting.proofs.{MainClimb.{Climbed, climbed-none, climbed-up, climbed-late}, MainPath.{main-length, main-at}}
 use Rattle.rewriting.proofs.main_step.Statement.{statement}
 use Rattle.rewriting.proofs.main_step.Tie as tie
 

@@ -1,11 +1,8 @@
 -- `rewriting::rewrite` meets its contract: both patterns are checked, and then rewritten. Assumes nothing.
-use mathlib.Core.Path.{refl, subst}
-use mathlib.Core.Logic.{inl, inr, ⊎-elim}
-use Rattle.tables.specs.Checks.{ChecksPattern}
-use Rattle.tables.specs.Pattern.{ValidPattern}
+use Rattle.tables.proofs.Kit.{refl, subst, inl, inr, ⊎-elim, needs}
+use Rattle.tables.specs.{Checks.ChecksPattern, Pattern.ValidPattern}
 use Rattle.rewriting.specs.declared.Rewriting.the-variants as rewriting
 use Rattle.rewriting.proofs.Said.{said}
-use borrow.Author.Needs.{needs}
 use Rattle.rewriting.proofs.rewrite.Statement.{statement}
 use Rattle.rewriting.proofs.rewrite.Tie as tie
 

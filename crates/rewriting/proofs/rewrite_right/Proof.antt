@@ -1,20 +1,12 @@
 -- `rewriting::rewrite_right` meets its contract: the size, the candidate, and whether it serves. Assumes nothing.
-use mathlib.Core.Path.{refl, subst}
-use mathlib.Core.Logic.{inl, inr, ⊎-elim}
-use native.Mathlib.Omega.{arith}
-use borrow.Author.Tests.{ltb-true, ltb-false}
-use Rattle.tables.specs.Pattern.{shapeOf}
-use Rattle.tables.specs.Refusal.{Passes}
-use Rattle.tables.specs.declared.Refusal.the-variants.{TooLarge}
+use Rattle.tables.proofs.Kit.{refl, subst, inl, inr, ⊎-elim, arith, ltb-true, ltb-false, needs}
+use Rattle.tables.specs.{Pattern.shapeOf, Refusal.Passes, declared.Refusal.the-variants.TooLarge}
 use Rattle.tables.proofs.Tests.{passed, failed}
 use Rattle.containment.specs.Mapping.{Equal}
 use Rattle.joining.specs.Join.{joinOf, Joinable}
-use Rattle.rewriting.specs.Candidate.{Candidate}
-use Rattle.rewriting.specs.Rewriting.{rewritingChecks}
+use Rattle.rewriting.specs.{Candidate.Candidate, Rewriting.rewritingChecks}
 use Rattle.rewriting.specs.declared.Rewriting.the-variants as rewriting
-use Rattle.rewriting.proofs.Rewritten.{candidate-joinable, candidate-unique}
-use Rattle.rewriting.proofs.Said.{said}
-use borrow.Author.Needs.{needs}
+use Rattle.rewriting.proofs.{Rewritten.{candidate-joinable, candidate-unique}, Said.said}
 use Rattle.rewriting.proofs.rewrite_right.Statement.{statement}
 use Rattle.rewriting.proofs.rewrite_right.Tie as tie
 

@@ -1,9 +1,6 @@
 -- `rewriting::serves` meets its contract: the join obeys the rules, and is compared with the query. Assumes nothing.
-use mathlib.Core.Path.{sym, subst}
-use mathlib.Core.Logic.{_↔_}
-use lib.Dec.{T}
-use Rattle.tables.specs.Pattern.{shapeOf, ValidPattern}
-use Rattle.tables.specs.declared.Pattern.{Pattern}
+use Rattle.tables.proofs.Kit.{sym, subst, _↔_, T}
+use Rattle.tables.specs.{Pattern.{shapeOf, ValidPattern}, declared.Pattern.Pattern}
 use Rattle.containment.specs.Mapping.{Equal}
 use Rattle.containment.proofs.Maps.{equal-sym}
 use Rattle.joining.proofs.Order.{join-valid}

@@ -1,10 +1,6 @@
 -- `tables::bare_numbers` meets its contract: the numbers of the steps before the one looked at are taken. Assumes nothing.
-use Prim.Native.Nat.{_-_, _≤_}
-use mathlib.Core.Path.{_≡_, refl, _∙_}
+use Rattle.tables.proofs.Kit.{_-_, _≤_, _≡_, refl, _∙_, getD, arith, needs}
 use Rattle.tables.specs.Column.{blocks, padded, stepNo}
-use lib.ListN.{getD}
-use native.Mathlib.Omega.{arith}
-use borrow.Author.Needs.{needs}
 use Rattle.tables.proofs.Columns.{padded-next, bare-all}
 use Rattle.tables.proofs.bare_numbers.Statement.{statement}
 use Rattle.tables.proofs.bare_numbers.Tie as tie

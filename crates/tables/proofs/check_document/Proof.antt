@@ -1,17 +1,8 @@
 -- `tables::check_document` meets its contract: every node before the one looked at obeys its rule. Assumes nothing.
-use Prim.Native.Nat.{ℕ, _-_, _≤_, _<_}
-use mathlib.Core.Path.{_≡_}
-use mathlib.Core.Logic.{⊎-elim}
-use lib.ListN.{length}
-use borrow.Author.Count.{below-more}
-use Rattle.tables.specs.declared.Refusal.the-variants.{BadDocument}
-use Rattle.tables.specs.Document.{NodeRule, documentOf}
-use Rattle.tables.proofs.Refusals.{refused}
-use Rattle.tables.proofs.Tests.{passed, failed}
-use borrow.Author.Tests.{ltb-true, ltb-false, eqb-true, eqb-false, not-true, not-false}
-use native.Mathlib.Omega.{arith}
-use denote.Ref.{now}
-use borrow.Author.Needs.{needs}
+use Rattle.tables.proofs.Kit.{ℕ, _-_, _≤_, _<_, _≡_, ⊎-elim, length, below-more}
+use Rattle.tables.proofs.Kit.{ltb-true, ltb-false, eqb-true, eqb-false, not-true, not-false, arith, now, needs}
+use Rattle.tables.specs.{declared.Refusal.the-variants.BadDocument, Document.{NodeRule, documentOf}}
+use Rattle.tables.proofs.{Refusals.refused, Tests.{passed, failed}}
 use Rattle.tables.proofs.check_document.Statement.{statement}
 use Rattle.tables.proofs.check_document.Tie as tie
 

@@ -1,18 +1,8 @@
 -- `tables::check_pattern` meets its contract: the counts, and then the steps in its lists. Assumes nothing.
-use Prim.Native.Nat.{ℕ, _≤_, _<_}
-use mathlib.Core.Path.{_≡_, refl, sym, subst}
-use mathlib.Core.Logic.{_↔_, ⊎-elim}
-use lib.Dec.{T}
-use lib.ListN.{length, take, length-take}
-use Rattle.tables.specs.Pattern.{StepRule, ValidPattern}
-use Rattle.tables.specs.declared.Pattern.{Pattern}
-use Rattle.tables.specs.declared.Refusal.the-variants.{BadPattern}
-use Rattle.tables.specs.inner.Steps.{stepsOf}
-use Rattle.tables.proofs.Agreement.{steps-valid}
-use Rattle.tables.proofs.Refusals.{refused}
-use borrow.Author.Tests.{ltb-true, ltb-false, leb-true, leb-false}
-use native.Mathlib.Omega.{arith}
-use borrow.Author.Needs.{needs}
+use Rattle.tables.proofs.Kit.{ℕ, _≤_, _<_, _≡_, refl, sym, subst, _↔_, ⊎-elim, T, length, take, length-take}
+use Rattle.tables.proofs.Kit.{ltb-true, ltb-false, leb-true, leb-false, arith, needs}
+use Rattle.tables.specs.{Pattern.{StepRule, ValidPattern}, declared.Pattern.Pattern, declared.Refusal.the-variants.BadPattern, inner.Steps.stepsOf}
+use Rattle.tables.proofs.{Agreement.steps-valid, Refusals.refused}
 use Rattle.tables.proofs.check_pattern.Statement.{statement}
 use Rattle.tables.proofs.check_pattern.Tie as tie
 

@@ -1,7 +1,5 @@
 -- `tables::node_hangs` meets its contract: the loop is the climb of Climbing. Assumes nothing.
-use native.Mathlib.Omega.{arith}
-use denote.Ref.{now}
-use borrow.Author.Needs.{needs}
+use Rattle.tables.proofs.Kit.{arith, now, needs}
 use Rattle.tables.proofs.Hanging.{listed, Climbs, first-hangs, climb-falls, climb-starts, climb-goes, climb-ends}
 use Rattle.tables.proofs.node_hangs.Statement.{statement}
 use Rattle.tables.proofs.node_hangs.Tie as tie

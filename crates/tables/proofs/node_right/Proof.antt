@@ -1,6 +1,5 @@
 -- `tables::node_right` meets its contract: a label that is not 0, and then the climb. Assumes nothing.
-use native.Mathlib.Omega.{arith}
-use borrow.Author.Needs.{needs}
+use Rattle.tables.proofs.Kit.{arith, needs}
 use Rattle.tables.proofs.node_right.Statement.{statement}
 use Rattle.tables.proofs.node_right.Tie as tie
 

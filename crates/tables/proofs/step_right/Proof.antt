@@ -1,13 +1,5 @@
 -- `tables::step_right` meets its contract: the axis, a label that is not 0, and then the climb. Assumes nothing.
-use Prim.Native.Nat.{ℕ, _≤_}
-use mathlib.Core.Path.{_≡_}
-use mathlib.Core.Logic.{_⊎_, inl, inr, ⊎-elim}
-use native.Mathlib.Nat.{eq-zero-or-pos}
-use lib.ListN.{getD}
-use borrow.Author.Tests.{eqb-true, eqb-false}
-use native.Mathlib.Omega.{arith}
-use denote.Ref.{now}
-use borrow.Author.Needs.{needs}
+use Rattle.tables.proofs.Kit.{ℕ, _≤_, _≡_, _⊎_, inl, inr, ⊎-elim, eq-zero-or-pos, getD, eqb-true, eqb-false, arith, now, needs}
 use Rattle.tables.proofs.step_right.Statement.{statement}
 use Rattle.tables.proofs.step_right.Tie as tie
 

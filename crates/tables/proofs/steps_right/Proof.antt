@@ -1,12 +1,7 @@
 -- `tables::steps_right` meets its contract: every step before the one looked at obeys its rule. Assumes nothing.
-use Prim.Native.Nat.{ℕ, _-_, _≤_, _<_}
-use lib.ListN.{length}
-use borrow.Author.Count.{below-more}
-use Rattle.tables.specs.Pattern.{StepRule}
-use Rattle.tables.specs.inner.Steps.{stepsOf}
+use Rattle.tables.proofs.Kit.{ℕ, _-_, _≤_, _<_, length, below-more, arith, needs}
+use Rattle.tables.specs.{Pattern.StepRule, inner.Steps.stepsOf}
 use Rattle.tables.proofs.Tests.{passed, failed}
-use native.Mathlib.Omega.{arith}
-use borrow.Author.Needs.{needs}
 use Rattle.tables.proofs.steps_right.Statement.{statement}
 use Rattle.tables.proofs.steps_right.Tie as tie
 

@@ -1,9 +1,5 @@
 -- What a node's parent allows is read where there is a parent. Assumes nothing.
-use Prim.Native.Nat.{_<_}
-use denote.Ref.{now}
-use lib.ListN.{getD}
-use native.Mathlib.Omega.{arith}
-use borrow.Author.Needs.{needs}
+use Rattle.tables.proofs.Kit.{_<_, now, getD, arith, needs}
 use Rattle.answers.proofs.standing.above.Statement.{statement}
 use Rattle.answers.proofs.standing.above.Tie as tie
 

@@ -1,11 +1,8 @@
 -- What the steps of a node lead to is joined with the descendant steps of what was allowed to it. Assumes nothing.
-use mathlib.Core.Path.{_≡_}
-use Rattle.tables.specs.Bits.{bit}
-use Rattle.tables.specs.Tree.{Child}
+use Rattle.tables.proofs.Kit.{_≡_, needs}
+use Rattle.tables.specs.{Bits.bit, Tree.Child}
 use Rattle.tables.proofs.Marks.{marks-bits, marks-and, marks-or}
-use Rattle.plan.specs.Steps.{OfAxis}
-use Rattle.plan.specs.Leading.{Led}
-use borrow.Author.Needs.{needs}
+use Rattle.plan.specs.{Steps.OfAxis, Leading.Led}
 use Rattle.answers.proofs.standing.pass_on.Statement.{statement}
 use Rattle.answers.proofs.standing.pass_on.Tie as tie
 

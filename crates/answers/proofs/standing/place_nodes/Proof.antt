@@ -1,10 +1,7 @@
 -- The sets and the table are the pattern's own, so that all turns leave its answers. Assumes nothing.
-use mathlib.Core.Path.{refl}
-use native.Mathlib.Omega.{arith}
-use Rattle.tables.specs.Tree.{Child}
-use Rattle.tables.specs.Pattern.{shapeOf}
+use Rattle.tables.proofs.Kit.{refl, arith, needs}
+use Rattle.tables.specs.{Tree.Child, Pattern.shapeOf}
 use Rattle.plan.proofs.Bytes.{spread-marks}
-use borrow.Author.Needs.{needs}
 use Rattle.answers.proofs.standing.place_nodes.Statement.{statement}
 use Rattle.answers.proofs.standing.place_nodes.Tie as tie
 

@@ -1,11 +1,8 @@
 -- The numbers of the turn are those of the law. Assumes nothing.
-use denote.Ref.{now}
-use native.Mathlib.Omega.{arith}
-use lib.ListN.{length-set}
+use Rattle.tables.proofs.Kit.{now, arith, length-set, needs}
 use Rattle.tables.specs.Document.{documentOf}
 use Rattle.marking.specs.Entries.{Marked}
 use Rattle.answers.proofs.TurnDown.{turned}
-use borrow.Author.Needs.{needs}
 use Rattle.answers.proofs.standing.place_turn.Statement.{statement}
 use Rattle.answers.proofs.standing.place_turn.Tie as tie
 

@@ -1,12 +1,6 @@
 -- The invariant is the state of the second pass and the answers so far, for every pattern whose plan the tables are. Assumes nothing.
-use Prim.Native.Nat.{ℕ, _-_, _<_, _≤_}
-use mathlib.Core.Path.{_≡_, refl, _∙_}
-use mathlib.Core.List.{List}
-use denote.Ref.{now}
-use lib.ListN.{length, length-replicate}
-use native.Mathlib.Omega.{arith}
-use Rattle.tables.specs.Document.{ValidDocument, documentOf}
-use Rattle.tables.specs.Pattern.{Shape}
+use Rattle.tables.proofs.Kit.{ℕ, _-_, _<_, _≤_, _≡_, refl, _∙_, List, now, length, length-replicate, arith}
+use Rattle.tables.specs.{Document.{ValidDocument, documentOf}, Pattern.Shape}
 use Rattle.plan.specs.Plans.{DownPlan}
 use Rattle.marking.specs.Entries.{Marked}
 use Rattle.answers.specs.inner.Standing.{Ready, Downward, Listed}

@@ -1,11 +1,6 @@
 -- `asking::text::put_number` meets its contract: it calls itself for the digits before the last, and the number falls. Assumes nothing.
-use native.Mathlib.Omega.{arith}
-use lib.ListN.{length}
-use mathlib.Core.Path.{ap}
-use borrow.Author.Needs.{needs}
-use Rattle.asking.proofs.Decimal.{decimal-small, decimal-large, decimal-large-length}
-use Rattle.asking.proofs.Writing.{wrote-then}
-use Prim.Native.Nat.{ℕ, _<_}
+use Rattle.tables.proofs.Kit.{arith, length, ap, needs, ℕ, _<_}
+use Rattle.asking.proofs.{Decimal.{decimal-small, decimal-large, decimal-large-length}, Writing.wrote-then}
 use borrow.Fn.Kinds.{In}
 use borrow.Fn.PlainCycle.{Measures, is, falls, and}
 use Rattle.asking.proofs.text.put_number.Reads as put-number

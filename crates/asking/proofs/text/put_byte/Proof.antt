@@ -1,7 +1,5 @@
 -- `asking::text::put_byte` meets its contract: one store. Assumes nothing.
-use native.Mathlib.Omega.{arith}
-use denote.Ref.{now}
-use borrow.Author.Needs.{needs}
+use Rattle.tables.proofs.Kit.{arith, now, needs}
 use Rattle.asking.proofs.Writing.{wrote-byte}
 use Rattle.asking.proofs.text.put_byte.Statement.{statement}
 use Rattle.asking.proofs.text.put_byte.Tie as tie

@@ -1,6 +1,5 @@
 -- `asking::text::put_item` meets its contract: a space, then the digits. Assumes nothing.
-use native.Mathlib.Omega.{arith}
-use borrow.Author.Needs.{needs}
+use Rattle.tables.proofs.Kit.{arith, needs}
 use Rattle.asking.proofs.Writing.{wrote-then}
 use Rattle.asking.proofs.text.put_item.Statement.{statement}
 use Rattle.asking.proofs.text.put_item.Tie as tie

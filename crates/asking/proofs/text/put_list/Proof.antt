@@ -1,9 +1,5 @@
 -- `asking::text::put_list` meets its contract: the numbers before the one looked at are put. Assumes nothing.
-use Prim.Native.Nat.{_-_}
-use native.Mathlib.Omega.{arith}
-use denote.Ref.{now}
-use lib.ListN.{length}
-use borrow.Author.Needs.{needs}
+use Rattle.tables.proofs.Kit.{_-_, arith, now, length, needs}
 use Rattle.asking.proofs.Writing.{Spaced, spaced-none, spaced-room, spaced-next, spaced-all}
 use Rattle.asking.proofs.text.put_list.Statement.{statement}
 use Rattle.asking.proofs.text.put_list.Tie as tie

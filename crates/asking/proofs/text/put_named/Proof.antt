@@ -1,9 +1,5 @@
 -- `asking::text::put_named` meets its contract: the word, then the number. Assumes nothing.
-use Prim.Native.Nat.{_≤_}
-use native.Mathlib.Omega.{arith}
-use denote.Ref.{now}
-use lib.ListN.{length}
-use borrow.Author.Needs.{needs}
+use Rattle.tables.proofs.Kit.{_≤_, arith, now, length, needs}
 use Rattle.asking.proofs.Writing.{wrote-then}
 use Rattle.asking.proofs.text.put_named.Statement.{statement}
 use Rattle.asking.proofs.text.put_named.Tie as tie

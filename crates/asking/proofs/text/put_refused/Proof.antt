@@ -1,9 +1,5 @@
 -- `asking::text::put_refused` meets its contract: its parts one after another. Assumes nothing.
-use Prim.Native.Nat.{_+_, _≤_}
-use native.Mathlib.Omega.{arith}
-use denote.Ref.{now}
-use lib.ListN.{length, length-append}
-use borrow.Author.Needs.{needs}
+use Rattle.tables.proofs.Kit.{_+_, _≤_, arith, now, length, length-append, needs}
 use Rattle.asking.specs.Text.{item, refusedWord, refusedLine}
 use Rattle.asking.proofs.Writing.{wrote-then, refused-length}
 use Rattle.asking.proofs.text.put_refused.Statement.{statement}

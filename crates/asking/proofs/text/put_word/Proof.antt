@@ -1,8 +1,5 @@
 -- `asking::text::put_word` meets its contract: the bytes before the one looked at are put. Assumes nothing.
-use Prim.Native.Nat.{_-_}
-use native.Mathlib.Omega.{arith}
-use lib.ListN.{length}
-use borrow.Author.Needs.{needs}
+use Rattle.tables.proofs.Kit.{_-_, arith, length, needs}
 use Rattle.asking.proofs.Writing.{Copied, copied-none, copied-next, copied-all}
 use Rattle.asking.proofs.text.put_word.Statement.{statement}
 use Rattle.asking.proofs.text.put_word.Tie as tie

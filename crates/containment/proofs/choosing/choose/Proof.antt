@@ -1,17 +1,7 @@
 -- `containment::choosing::choose` meets its contract: the steps before t have their images in the array. Assumes nothing.
-use Prim.Native.Nat.{ℕ, _-_, _≤_, _<_}
-use mathlib.Core.Path.{_≡_, refl, sym, ap, _∙_}
-use native.Mathlib.Omega.{arith}
-use borrow.Author.Needs.{needs}
-use lib.ListN.{getD}
-use denote.Ref.{now}
-use Rattle.tables.specs.Column.{stepNo, stepArray}
-use Rattle.tables.specs.Pattern.{shapeOf}
-use Rattle.tables.specs.declared.StepNo.{StepNo}
-use Rattle.tables.proofs.Choice.{upd}
-use Rattle.tables.proofs.Columns.{steps-at, bare-at}
-use Rattle.tables.proofs.Rules.{shape-ordered}
-use Rattle.tables.proofs.Trees.{parent-lt}
+use Rattle.tables.proofs.Kit.{ℕ, _-_, _≤_, _<_, _≡_, refl, sym, ap, _∙_, arith, needs, getD, now}
+use Rattle.tables.specs.{Column.{stepNo, stepArray}, Pattern.shapeOf, declared.StepNo.StepNo}
+use Rattle.tables.proofs.{Choice.upd, Columns.{steps-at, bare-at}, Rules.shape-ordered, Trees.parent-lt}
 use Rattle.placing.proofs.Fit.{able-ok}
 use Rattle.mappings.specs.Fits.{Picks, ImageAt}
 use Rattle.mappings.proofs.StepFits.{mapTask}

@@ -4,8 +4,7 @@ use Rattle.containment.specs.Mapping.{BeginsIn}
 use Rattle.mappings.specs.Fits.{FitsIn, Picks}
 use Rattle.mappings.proofs.Images.{pick-below}
 use Rattle.containment.proofs.Verdicts.{first-picked, not-contained, within-chosen}
-use native.Mathlib.Omega.{arith}
-use borrow.Author.Needs.{needs}
+use Rattle.tables.proofs.Kit.{arith, needs}
 use Rattle.containment.proofs.comparing.compare.Statement.{statement}
 use Rattle.containment.proofs.comparing.compare.Tie as tie
 

@@ -1,15 +1,8 @@
 -- `containment::witness::descendants_before` meets its contract: d counts the descendant steps before s. Assumes nothing.
-use Prim.Native.Nat.{_-_, _≤_}
-use mathlib.Core.Path.{_≡_, refl}
-use mathlib.Core.Logic.{⊎-elim}
-use native.Mathlib.Omega.{arith}
-use native.Mathlib.Numerals.{add-one}
-use borrow.Author.Needs.{needs}
-use lib.ListN.{getD}
+use Rattle.tables.proofs.Kit.{_-_, _≤_, _≡_, refl, ⊎-elim, arith, add-one, needs, getD}
 use Rattle.tables.specs.Pattern.{shapeOf}
 use Rattle.containment.specs.Witness.{descendants}
-use Rattle.containment.proofs.Contained.{axes}
-use Rattle.containment.proofs.Nodes.{descendants-le}
+use Rattle.containment.proofs.{Contained.axes, Nodes.descendants-le}
 use Rattle.containment.proofs.witness.descendants_before.Statement.{statement}
 use Rattle.containment.proofs.witness.descendants_before.Tie as tie
 

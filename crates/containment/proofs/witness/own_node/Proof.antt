@@ -1,13 +1,8 @@
 -- `containment::witness::own_node` meets its contract. Assumes nothing.
-use Prim.Native.Nat.{_+_, _<_}
-use mathlib.Core.Path.{_≡_, ap}
-use native.Mathlib.Omega.{arith}
-use native.Mathlib.Numerals.{add-one}
-use Rattle.tables.specs.Column.{nodeNo}
-use Rattle.tables.specs.Pattern.{shapeOf}
+use Rattle.tables.proofs.Kit.{_+_, _<_, _≡_, ap, arith, add-one, needs}
+use Rattle.tables.specs.{Column.nodeNo, Pattern.shapeOf}
 use Rattle.containment.specs.Witness.{descendants, ownNode}
 use Rattle.containment.proofs.WitnessSteps.{own-few}
-use borrow.Author.Needs.{needs}
 use Rattle.containment.proofs.witness.own_node.Statement.{statement}
 use Rattle.containment.proofs.witness.own_node.Tie as tie
 

@@ -1,8 +1,5 @@
 -- `containment::witness::write_step` meets its contract. Assumes nothing.
-use mathlib.Core.Path.{refl}
-use native.Mathlib.Omega.{arith}
-use lib.ListN.{length-set}
-use borrow.Author.Needs.{needs}
+use Rattle.tables.proofs.Kit.{refl, arith, length-set, needs}
 use Rattle.containment.proofs.witness.write_step.Statement.{statement}
 use Rattle.containment.proofs.witness.write_step.Tie as tie
 

@@ -1,17 +1,10 @@
 -- `containment::witness::write_witness` meets its contract: the steps before s are written. Assumes nothing.
-use Prim.Native.Nat.{ℕ, _+_, _-_, _≤_, _<_}
-use mathlib.Core.Path.{_≡_, refl}
-use mathlib.Core.Logic.{_⊎_, inl, inr, ⊎-elim}
-use denote.Ref.{now}
-use native.Mathlib.Omega.{arith}
-use lib.ListN.{length, length-set}
-use Rattle.tables.specs.Column.{nodeNo}
-use Rattle.tables.specs.Pattern.{Shape, shapeOf}
+use Rattle.tables.proofs.Kit.{ℕ, _+_, _-_, _≤_, _<_, _≡_, refl, _⊎_, inl, inr, ⊎-elim, now, arith, length, length-set}
+use Rattle.tables.specs.{Column.nodeNo, Pattern.{Shape, shapeOf}}
 use Rattle.tables.proofs.MarkTables.{parent-few}
 use Rattle.containment.specs.Witness.{hook, witnessOf}
-use Rattle.containment.proofs.Nodes.{descendants-le}
-use Rattle.containment.proofs.WitnessSteps.{Front, NodesTo, front-none, nodes-more, hook-is, front-more, front-room, front-lengths}
-use Rattle.containment.proofs.Contained.{axes, witness-few}
+use Rattle.containment.proofs.{Nodes.descendants-le, WitnessSteps.{Front, NodesTo, front-none, nodes-more, hook-is}}
+use Rattle.containment.proofs.{WitnessSteps.{front-more, front-room, front-lengths}, Contained.{axes, witness-few}}
 use Rattle.containment.proofs.witness.write_witness.Statement.{statement}
 use Rattle.containment.proofs.witness.write_witness.Tie as tie
 

@@ -1,7 +1,6 @@
 -- `station::code::minus` meets its contract. Assumes nothing.
-use native.Mathlib.Omega.{arith}
+use Rattle.tables.proofs.Kit.{arith, needs}
 use Rattle.station.proofs.Signed.{minus-fits, minus-result}
-use borrow.Author.Needs.{needs}
 use Rattle.station.proofs.code.minus.Statement.{statement}
 use Rattle.station.proofs.code.minus.Tie as tie
 

@@ -1,13 +1,7 @@
 -- `station::code::number_of` meets its contract: by the two cases of an answer. Assumes nothing.
-use Prim.Native.Nat.{_<_}
-use mathlib.Core.Path.{_≡_, sym, ap, _∙_, subst}
-use native.Mathlib.Omega.{arith}
-use lib.IntN.{pos, negℤ}
-use mir.Syntax.{w8, w64}
-use mir.Val.{Fits, toZ, ofZ}
+use Rattle.tables.proofs.Kit.{_<_, _≡_, sym, ap, _∙_, subst, arith, pos, negℤ, w8, w64, Fits, toZ, ofZ, needs}
 use Rattle.station.specs.Code.{codeOf, Small}
 use Rattle.station.proofs.Signed.{plus-result, neg-result}
-use borrow.Author.Needs.{needs}
 use Rattle.station.proofs.code.number_of.Statement.{statement}
 use Rattle.station.proofs.code.number_of.Tie as tie
 

@@ -1,10 +1,6 @@
 -- `station::code::plus` meets its contract. Assumes nothing.
-use Prim.Native.Nat.{_<_, _^_}
-use native.Mathlib.Omega.{arith}
-use mir.Syntax.{w64}
-use mir.Val.{hbits}
+use Rattle.tables.proofs.Kit.{_<_, _^_, arith, w64, hbits, needs}
 use mir.Facts.{toZ-pos}
-use borrow.Author.Needs.{needs}
 use Rattle.station.proofs.code.plus.Statement.{statement}
 use Rattle.station.proofs.code.plus.Tie as tie
 
