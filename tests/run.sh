@@ -114,9 +114,13 @@ samples() {
   echo "${#samples[@]} samples print what is expected"
 }
 
-# The layout of the C by clang-format, of version 14 since versions differ, and the scripts by shellcheck, each where it is here.
+# Lines of at most 160 columns; the layout of the C by clang-format, of version 14 since versions differ, and the scripts by shellcheck, each where it is here.
 style() {
   local c=(include/*.h samples/*.c tests/*.[ch] bench/*.[ch]) scripts looked=()
+  if LC_ALL=C.UTF-8 grep -rnIE '^.{161,}' crates include samples tests bench tools .ci --exclude='*.edit'; then
+    echo 'these lines are over 160 columns'
+    return 1
+  fi
   mapfile -t scripts < <(grep -lE '^#!.*sh$' .ci/* tests/*.sh bench/*.sh tools/*)
   if clang-format --version 2> /dev/null | grep -q 'version 14\.'; then
     clang-format --dry-run -Werror "${c[@]}"

@@ -83,7 +83,8 @@ returns-4 c =
 
 pub contains-right-spec : {M : Type 1} → statement M
 contains-right-spec = tie.close (tie.spec (λ c κs. search needs) (λ c κs. search needs) returns (λ c κs. search needs)
-    (λ c. record { fits = omega (arith, size (c .before), witness-few (c .before .before .before .before .before .before .pre .0)) })
-    (λ c κs. search needs) returns-2 (λ c κs. search needs) returns-3
-    (λ c κs. let e = c .before .before .before .before in let r = room e in (e .before .before .before .before .before .before .before .before .pre .0, r .0, r .1))
+    (λ c. record { fits = omega (arith, size (c .before), witness-few (c .before .before .before .before .before .before .pre .0)) }) (λ c κs. search needs)
+    returns-2 (λ c κs. search needs) returns-3
+    (λ c κs. let e = c .before .before .before .before in let r = room e in
+    (e .before .before .before .before .before .before .before .before .pre .0, r .0, r .1))
     (λ c κs. search needs) (λ c κs. search needs) (λ c. search needs) (λ c. search needs) returns-4)

@@ -44,7 +44,8 @@ returns-3 c =
 
 pub answer-packets-spec : {M : Type 1} → statement M
 answer-packets-spec = tie.close (tie.spec (λ c. search needs) (λ c. search needs) (λ c κs. search needs) (λ c. search needs) (λ c. search needs)
-    (λ c. answers-unread (c .before .before .before .before .before .read-nodes-and-pattern .ensures) _ _ (c .before .read2 .given .0 .0) (c .before .read2 .given .1) refl)
+    (λ c. answers-unread (c .before .before .before .before .before .read-nodes-and-pattern .ensures) _ _ (c .before .read2 .given .0 .0)
+    (c .before .read2 .given .1) refl)
     (λ c. few (c .before) .0) (λ c. simp length-take (omega (arith, few (c .before .before) .0))) (λ c. few (c .before .before) .1)
     (λ c. simp length-take (omega (arith, few (c .before .before .before) .1))) (λ c. search needs) (λ c. search needs) (λ c κs. search needs)
     (λ c. search needs) (λ c. search needs) put-answers-requires (λ c. search needs) (λ c. search needs) returns-2 returns-3)

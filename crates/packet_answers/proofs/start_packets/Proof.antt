@@ -69,11 +69,22 @@ returns-4 c =
 
 pub start-packets-spec : {M : Type 1} → statement M
 start-packets-spec = tie.close (tie.spec (λ c. search needs) (λ c. search needs) (λ c κs. search needs) (λ c. search needs) (λ c. search needs)
-    (λ c. starts-unread (c .before .before .before .before .before .read-nodes-and-pattern .ensures) _ _ _ (c .before .read2 .given .0 .0) (c .before .read2 .given .1) refl)
+    (λ c. starts-unread (c .before .before .before .before .before .read-nodes-and-pattern .ensures) _ _ _ (c .before .read2 .given .0 .0)
+    (c .before .read2 .given .1) refl)
     (λ c. few (c .before) .0) (λ c. simp length-take (omega (arith, few (c .before .before) .0))) (λ c. few (c .before .before) .1)
     (λ c. simp length-take (omega (arith, few (c .before .before .before) .1))) (λ c κs. search needs) returns-2 (λ c. search needs)
     (λ c κs. (omega (arith, enough (c .before), both-few (both (c .before .before .before .before .before .before))), λ i l. omega arith))
-    (λ c. omega (arith, enough (c .before .before .before), both-few (both (c .before .before .before .before .before .before .before .before)), c .before .get-halves .kept))
-    (λ c. simp length-take (omega (arith, enough (c .before .before .before .before), both-few (both (c .before .before .before .before .before .before .before .before .before)), c .before .before .get-halves .kept)))
+    (λ c. omega (
+      arith,
+      enough (c .before .before .before),
+      both-few (both (c .before .before .before .before .before .before .before .before)),
+      c .before .get-halves .kept,
+    ))
+    (λ c. simp length-take (omega (
+      arith,
+      enough (c .before .before .before .before),
+      both-few (both (c .before .before .before .before .before .before .before .before .before)),
+      c .before .before .get-halves .kept,
+    )))
     (λ c. search needs) (λ c. search needs) (λ c κs. search needs) (λ c. search needs) (λ c. search needs) put-answers-requires (λ c. search needs)
     (λ c. search needs) returns-3 returns-4)

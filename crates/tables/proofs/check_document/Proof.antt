@@ -39,7 +39,11 @@ returns-3 c =
 
 pub check-document-spec : {M : Type 1} → statement M
 check-document-spec = tie.close (tie.spec Inv-loop μ-loop returns (λ c. omega (arith, few (c .before))) loop-holds
-    (λ c κs. ((omega arith, c .before .loop .inv .1), c .before .loop .inv .2)) returns-2
-    (λ c. omega (arith, few (c .before .before .before .before .before))) (λ c. search needs)
-    (λ c. (omega arith, c .before .before .before .loop .inv .1, below-more _ _ (c .before .before .before .loop .inv .2) (c .before .node-right .ensures .0 (passed (c .before .node-right .result) (c .if4 .left)))))
+    (λ c κs. ((omega arith, c .before .loop .inv .1), c .before .loop .inv .2)) returns-2 (λ c. omega (arith, few (c .before .before .before .before .before)))
+    (λ c. search needs)
+    (λ c. (
+      omega arith,
+      c .before .before .before .loop .inv .1,
+      below-more _ _ (c .before .before .before .loop .inv .2) (c .before .node-right .ensures .0 (passed (c .before .node-right .result) (c .if4 .left))),
+    ))
     returns-3)

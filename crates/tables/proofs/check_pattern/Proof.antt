@@ -31,12 +31,20 @@ returns c =
     (λ t. omega (arith, v .output, leb-true (p .count) (p .output .0) (t .3 .taken)))) (c .if1 .came))
 
 pub check-pattern-spec : {M : Type 1} → statement M
-check-pattern-spec = tie.close (tie.spec (λ c. search needs) returns (λ c κs. tt) (λ c. omega (arith, few (c .before .before), long (c .before .before) .0))
+check-pattern-spec = tie.close (tie.spec (λ c. search needs) returns
+    (λ c κs. tt)
+    (λ c. omega (arith, few (c .before .before), long (c .before .before) .0))
     (λ c. simp length-take (omega (arith, few (c .before .before .before), long (c .before .before .before) .0)))
     (λ c. omega (arith, few (c .before .before .before), long (c .before .before .before) .1))
     (λ c. simp length-take (omega (arith, few (c .before .before .before .before), long (c .before .before .before .before) .1)))
     (λ c. omega (arith, few (c .before .before .before .before), long (c .before .before .before .before) .2))
     (λ c. simp length-take (omega (arith, few (c .before .before .before .before .before), long (c .before .before .before .before .before) .2)))
-    (λ c κs. let x = c .before .before .before .before .before in let l = long x in (simp length-take (omega (arith, few x, l .0)), simp length-take (omega (arith, few x, l .0, l .1)), simp length-take (omega (arith, few x, l .0, l .2))))
-    (λ c. ((steps (c .before .before .before .before .before .before .before) .0 (c .before .steps-right .ensures .0 (subst T (sym (c .if4 .taken)) tt)), tt), tt))
-    (λ c. refused BadPattern (λ v. subst T (c .if4 .left) (c .before .steps-right .ensures .1 (steps (c .before .before .before .before .before .before .before) .1 v)))))
+    (λ c κs.
+    let x = c .before .before .before .before .before in let l = long x in
+    (simp length-take (omega (arith, few x, l .0)), simp length-take (omega (arith, few x, l .0, l .1)), simp length-take (omega (arith, few x, l .0, l .2))))
+    (λ c. (
+      (steps (c .before .before .before .before .before .before .before) .0 (c .before .steps-right .ensures .0 (subst T (sym (c .if4 .taken)) tt)), tt),
+      tt,
+    ))
+    (λ c. refused BadPattern (λ v. subst T (c .if4 .left) (c .before .steps-right .ensures .1
+    (steps (c .before .before .before .before .before .before .before) .1 v)))))

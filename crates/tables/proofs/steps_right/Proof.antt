@@ -18,6 +18,10 @@ returns c =
 
 pub steps-right-spec : {M : Type 1} → statement M
 steps-right-spec = tie.close (tie.spec Inv-loop μ-loop (λ c. search needs) (λ c. (omega arith, λ k l. absurd (omega arith)))
-    (λ c κs. ((omega arith, omega arith, omega arith), c .before .loop .inv .1)) returns (λ c. search needs) (λ c. search needs)
-    (λ c. (omega arith, below-more _ _ (c .before .before .before .loop .inv .1) (c .before .step-right .ensures .0 (passed (c .before .step-right .result) (c .if1 .left)))))
+    (λ c κs. ((omega arith, omega arith, omega arith), c .before .loop .inv .1))
+    returns (λ c. search needs) (λ c. search needs)
+    (λ c. (
+      omega arith,
+      below-more _ _ (c .before .before .before .loop .inv .1) (c .before .step-right .ensures .0 (passed (c .before .step-right .result) (c .if1 .left))),
+    ))
     (λ c. (λ t s l. c .before .loop .inv .1 s (omega arith), λ v. tt)))
