@@ -1,4 +1,7 @@
 // The answers of a pattern in a document (docs/RULES.md, "Answers"). Both forms make two passes over the nodes, with the steps of a pattern as bits.
+
+#![tactic(auto)]
+
 ghost use Rattle.std.specs.Prelude.{ℕ, ◌*◌, ◌≤◌, ◌<◌, length, get_or};
 ghost use Rattle.tables.specs.Document.{ValidDocument, document_of};
 ghost use Rattle.tables.specs.Pattern.{shape_of, ValidPattern};

@@ -1,5 +1,8 @@
 // Reads three packets, the document, the view and the query, from standard input and prints what `asking::reply` says of them (docs/RULES.md, "The program
 // ask").
+
+#![tactic(auto)]
+
 use tables::Counted;
 
 // Valid input has at most 8,715 bytes; one byte more shows that there are more.

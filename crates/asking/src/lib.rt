@@ -1,4 +1,7 @@
 // What the program `ask` prints for each input (docs/RULES.md, "The program ask").
+
+#![tactic(auto)]
+
 ghost use Rattle.std.specs.Prelude.{◌+◌, ◌≤◌, ◌≡◌, length, get_or};
 ghost use Rattle.tables.specs.Document.{ValidDocument, document_of};
 ghost use Rattle.tables.specs.Pattern.{shape_of, ValidPattern};

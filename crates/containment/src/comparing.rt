@@ -8,7 +8,7 @@ use crate::choosing;
 use tables::{Pattern, STEPS, StepNo};
 
 // Is there a mapping, and which is smallest? The steps are all 0 where there is none.
-#[derive(Drop)]
+#[derive(Clone, Copy)]
 pub(crate) struct Mapped {
     pub(crate) there: bool,
     pub(crate) mapping: [StepNo; STEPS],

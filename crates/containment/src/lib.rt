@@ -1,4 +1,7 @@
 // Containment of one pattern in another (docs/RULES.md, "Containment").
+
+#![tactic(auto)]
+
 ghost use Rattle.std.specs.Prelude.{ℕ, ◌≤◌, ◌≡◌, ◌⊎◌, ◌↔◌, false, T, get_or};
 ghost use Rattle.tables.specs.Column.{step_array};
 ghost use Rattle.tables.specs.Pattern.{shape_of, ValidPattern};
@@ -15,7 +18,7 @@ mod witness;
 use tables::{Checked, NodeNo, Pattern, Refusal, STEPS, StepNo};
 
 // Contained; or apart: how many nodes the witness has, and which of them is the answer node; or refused.
-#[derive(Drop)]
+#[derive(Clone, Copy)]
 pub enum Containment {
     Contained,
     Apart { nodes: usize, answer: NodeNo },
@@ -23,14 +26,14 @@ pub enum Containment {
 }
 
 // The answer, and beside it the mapping, all zero where the answer is not `Contained`.
-#[derive(Drop)]
+#[derive(Clone, Copy)]
 pub struct ContainmentAnswer {
     pub answer: Containment,
     pub mapping: [StepNo; STEPS],
 }
 
 // Whether two patterns have the same answers on every document, or the refusal.
-#[derive(Drop)]
+#[derive(Clone, Copy)]
 pub enum Equality {
     Equal,
     Different,

@@ -1,5 +1,8 @@
 // Runs what C cannot reach through packets (docs/PROMISES.md, "Where each case is run"): patterns with anything past their steps, and lists for a witness that
 // are short or of unequal length. What it prints is compared with the file `stdout`.
+
+#![tactic(auto)]
+
 use containment::Containment;
 use rewriting::Rewriting;
 use tables::{Checked, Counted, NodeNo, Pattern, Refusal, StepNo};

@@ -1,5 +1,8 @@
 // 16-bit numbers as two bytes each, high byte first, and lists of them (docs/RULES.md, "Packets"). These functions are for this crate and the crates above:
 // each asks for what they have checked.
+
+#![tactic(auto)]
+
 ghost use Rattle.std.specs.Prelude.{ℕ, ◌+◌, ◌*◌, ◌≤◌, ◌<◌, ◌≡◌, [], ◌∷◌, ◌++◌, length, take, drop};
 ghost use Rattle.tables.specs.Column.{blocks, column};
 ghost use Rattle.halves.specs.Bytes.{high, low, half, half_bytes};

@@ -1,4 +1,7 @@
 // Joining a compensation to a view (docs/RULES.md, "Join").
+
+#![tactic(auto)]
+
 ghost use Rattle.std.specs.Prelude.{◌≡◌};
 ghost use Rattle.tables.specs.Pattern.{zero_pattern};
 ghost use Rattle.tables.specs.declared.Checked.TheVariants.{Refused};
@@ -7,7 +10,7 @@ ghost use Rattle.joining.specs.Join.{join_of, Joinable, Joins};
 use tables::{Checked, Pattern, Refusal, STEPS, StepNo};
 
 // What joining gives: the answer, and beside it the joined pattern, all zero where the pair is refused.
-#[derive(Drop)]
+#[derive(Clone, Copy)]
 pub struct JoinAnswer {
     pub answer: Checked,
     pub pattern: Pattern,

@@ -1,5 +1,8 @@
 // Which steps of one pattern, B, fit at each step of another, A, and which of those a step of B goes to first (docs/RULES.md, "Mappings"): the steps of B are
 // bits. An inner crate: its functions are there for containment alone, and ask for what it has checked.
+
+#![tactic(auto)]
+
 ghost use Rattle.std.specs.Prelude.{◌≡◌, ◌↔◌, ℕ, ◌≤◌, ◌<◌, ◌^◌, T, length, get_or, replicate};
 ghost use Rattle.tables.specs.Bits.{bit, Marks};
 ghost use Rattle.tables.specs.Pattern.{Shape, shape_of, ValidPattern};

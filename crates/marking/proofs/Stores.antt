@@ -1,6 +1,6 @@
 -- The lists that the passes' stores leave, entry by entry. Assumes nothing.
 use Rattle.tables.proofs.Kit.{ℕ, ◌+◌, ◌*◌, ◌-◌, ◌≤◌, ◌<◌, ◌≡◌, ap, ◌∙◌, ◌≢◌, List, ◌++◌, arith, bit_or}
-use Rattle.tables.proofs.Kit.{length, get_or, set, drop, replicate, length-set, length-append, length-drop, length-replicate, get_or-replicate, List·getD-append}
+use Rattle.tables.proofs.Kit.{length, get_or, set, drop, replicate, length-set, length-append, length-drop, length-replicate, get_or-replicate, get_or-append}
 use Rattle.tables.proofs.Kit.{get_or-set_same, get_or-set_other, get_or-append-add, get_or-drop}
 use Rattle.marking.specs.Entries.{HandedUp}
 
@@ -62,7 +62,7 @@ module _ (w : List ℕ) (i p fit below seed : ℕ) (late : p < i) (room : 2 * i 
 
 -- m zeros at the front of a list
 pub cleared_zero : (m : ℕ) (before : List ℕ) (q : ℕ) → q < m → get_or (replicate m 0 ++ drop m before) q 0 ≡ 0
-cleared_zero m before q l = List·getD-append (replicate m 0) (drop m before) 0 q (omega (arith, length-replicate {A = ℕ} m 0)) ∙ get_or-replicate m q 0 0 l
+cleared_zero m before q l = get_or-append (replicate m 0) (drop m before) 0 q (omega (arith, length-replicate {A = ℕ} m 0)) ∙ get_or-replicate m q 0 0 l
 
 pub cleared_rest : (m : ℕ) (before : List ℕ) (q : ℕ) → m ≤ q → get_or (replicate m 0 ++ drop m before) q 0 ≡ get_or before q 0
 cleared_rest m before q l =

@@ -1,5 +1,8 @@
 // The first pass over the nodes (docs/RULES.md, "Answers"), which marks the steps that fit at each of them; the marks of start nodes, and the answer list's
 // entries. An inner crate: its functions are there for the Answers call alone, and ask for what it has checked.
+
+#![tactic(auto)]
+
 ghost use Rattle.std.specs.Prelude.{◌≡◌, ◌↔◌, ◌++◌, ℕ, ◌+◌, ◌*◌, ◌≤◌, ◌<◌, T, length, get_or, drop, replicate};
 ghost use Rattle.tables.specs.Document.{Document, node_count, ValidDocument, document_of};
 ghost use Rattle.tables.specs.Pattern.{Shape, shape_of, ValidPattern};

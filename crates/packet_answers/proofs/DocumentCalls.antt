@@ -1,6 +1,6 @@
 -- The calls on packets of documents, from the contracts of the calls that they make. Assumes nothing.
 use Rattle.tables.proofs.Kit.{ℕ, ◌*◌, ◌/◌, ◌%◌, ◌≤◌, ◌<◌, ◌≡◌, ap, ◌∙◌, subst, ⊎_elim, List, [], ◌∷◌, ◌++◌}
-use Rattle.tables.proofs.Kit.{arith, length, get_or, take, drop, replicate, length-replicate, List·getD-append}
+use Rattle.tables.proofs.Kit.{arith, length, get_or, take, drop, replicate, length-replicate, get_or-append}
 use Rattle.tables.specs.{Document.document_of, Column.blocks, Pattern.shape_of, Refusal.{Check, Passes}}
 use Rattle.tables.specs.{declared.Refusal.Refusal, declared.Pattern.Pattern, declared.Counted.Counted}
 use Rattle.tables.specs.declared.Counted.TheVariants as counted
@@ -30,7 +30,7 @@ module _ {ds ps parents₀ labels₀ parents labels : List ℕ} {n : ℕ} {p : P
   unfolding half_bytes
   answered First list₀ work₀ list work room₀ room c f e =
       let same : blocks (half_bytes list) c ≡ blocks (half_bytes f.answers) c = blocks_ext (half_bytes list) (half_bytes f.answers) c
-      (λ k l. ap (λ x. x / 256 ∷ x % 256 ∷ []) (ap (λ xs. get_or xs k 0) f.written ∙ List·getD-append f.answers (drop c list₀) 0 k
+      (λ k l. ap (λ x. x / 256 ∷ x % 256 ∷ []) (ap (λ xs. get_or xs k 0) f.written ∙ get_or-append f.answers (drop c list₀) 0 k
       (omega (arith, f.count)))) in
       record {
         answers = f.answers;

@@ -1,4 +1,7 @@
 // The calls on a document, as packets in and answers out (docs/RULES.md, "From C").
+
+#![tactic(auto)]
+
 ghost use Rattle.std.specs.Prelude.{◌*◌, ◌≤◌, length};
 ghost use Rattle.tables.specs.Column.{blocks};
 ghost use Rattle.tables.specs.Document.{document_of};
@@ -10,7 +13,7 @@ ghost use Rattle.packets.specs.inner.Putting.{Puts};
 use tables::{Checked, Counted, NODES, Pattern, Refusal};
 
 // What reading a document packet and a pattern packet gives: the node count or the first refusal, and the pattern.
-#[derive(Drop)]
+#[derive(Clone, Copy)]
 struct NodesAndPattern {
     answer: Counted,
     pattern: Pattern,

@@ -1,4 +1,7 @@
 // The calls on a document that stands in two lists, with the pattern as a packet (docs/RULES.md, "From C").
+
+#![tactic(auto)]
+
 ghost use Rattle.tables.specs.Document.{document_of};
 ghost use Rattle.packet_lists.specs.Lists.{ReadsInto, ListAnswers, ListStarted};
 

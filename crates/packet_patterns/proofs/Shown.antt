@@ -1,5 +1,5 @@
 -- What a containment call puts in the room: the packet of a witness and its answer node, or a mapping. Assumes nothing.
-use Rattle.tables.proofs.Kit.{ℕ, ◌+◌, ◌*◌, ◌≤◌, ◌≡◌, sym, ap, ◌∙◌, List, [], ◌∷◌, ◌++◌, arith, length, get_or, take, drop, List·getD-map, ext_get_or}
+use Rattle.tables.proofs.Kit.{ℕ, ◌+◌, ◌*◌, ◌≤◌, ◌≡◌, sym, ap, ◌∙◌, List, [], ◌∷◌, ◌++◌, arith, length, get_or, take, drop, get_or-map, ext_get_or}
 use Rattle.tables.specs.{Column.{column, padded, step_no, step_array}, Document.{Document, node_count}, declared.StepNo.StepNo}
 use Rattle.tables.proofs.Columns.{put_block, column_length, column_at, padded_length}
 use Rattle.halves.specs.Bytes.{high, low}
@@ -22,4 +22,4 @@ mapping_bytes f n m l e =
     let g : ℕ → ℕ = λ k. (get_or m k (step_no 0)).0 in
     ext_get_or 0 (column g 64) (padded f n) (column_length g 64 ∙ sym (padded_length f n l))
     (λ k h. column_at g 64 k (omega (arith, column_length g 64)) ∙ ap (λ xs. (get_or xs k (step_no 0)).0) e ∙ ap (λ s. s.0)
-    (List·getD-map step_no (padded f n) k 0))
+    (get_or-map step_no (padded f n) k 0))

@@ -1,4 +1,7 @@
 // The calls on two patterns, as packets in; a packet, a mapping or a witness out (docs/RULES.md, "From C").
+
+#![tactic(auto)]
+
 ghost use Rattle.std.specs.Prelude.{◌+◌, ◌*◌, ◌≤◌, ◌≡◌, [], ◌∷◌, ◌++◌, length, get_or};
 ghost use Rattle.tables.specs.Column.{column};
 ghost use Rattle.tables.specs.Document.{document_of};

@@ -1,4 +1,7 @@
 // Packets of patterns and of documents (docs/RULES.md, "Packets").
+
+#![tactic(auto)]
+
 ghost use Rattle.std.specs.Prelude.{◌+◌, ◌*◌, ◌/◌, ◌≤◌, ◌<◌, ◌≡◌, [], ◌∷◌, ◌++◌, length, take, drop};
 ghost use Rattle.tables.specs.Document.{document_of};
 ghost use Rattle.tables.specs.Pattern.{shape_of};
@@ -11,14 +14,14 @@ ghost use Rattle.packets.specs.DocumentPacket.{document_packet, ReadsNodes, Read
 use tables::{Checked, Counted, NODES, NodeNo, Pattern, Refusal, STEPS, StepNo};
 
 // What reading a pattern packet gives: the answer, and beside it the pattern, all zero where the packet is refused.
-#[derive(Drop)]
+#[derive(Clone, Copy)]
 pub struct PatternRead {
     pub answer: Checked,
     pub pattern: Pattern,
 }
 
 // What reading two pattern packets gives: the answer for both, and beside it both patterns.
-#[derive(Drop)]
+#[derive(Clone, Copy)]
 pub struct TwoRead {
     pub answer: Checked,
     pub first: Pattern,

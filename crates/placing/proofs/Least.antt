@@ -1,7 +1,7 @@
 -- The smallest way to send a task: each row in turn goes to the smallest number that its parent's and what lies below it allow. It runs, it fits whenever
 -- anything does, and no other list is smaller. Assumes nothing.
 use Rattle.tables.proofs.Kit.{ℕ, zero, suc, ◌+◌, ◌≤◌, ◌<◌, ◌≡◌, refl, sym, ap, ◌∙◌, subst, ⊎_elim, Bool, true, false, ◌&&◌, cond, List, [], ◌∷◌, ◌++◌}
-use Rattle.tables.proofs.Kit.{arith, eq-or-lt_of_le, eq-zero-or-pos, dec_lt, T, length, get_or, length-append, List·getD-append, get_or-append-add}
+use Rattle.tables.proofs.Kit.{arith, eq-or-lt_of_le, eq-zero-or-pos, dec_lt, T, length, get_or, length-append, get_or-append, get_or-append-add}
 use Rattle.tables.specs.Tree.{Tree, Child, child}
 use Rattle.tables.proofs.{Choice.below_or_at, Trees.{Ordered, below_lt}, Tests.{Tells, tells_and}}
 use Rattle.placing.specs.Smallest.{NoLater, same, less}
@@ -98,7 +98,7 @@ pub chosen_at : (S : Tree) (R : Probe) (n k : ℕ) → k < n → get_or (chosen 
 unfolding chosen
 chosen_at S R zero k l = absurd (omega arith)
 chosen_at S R (suc n) k l = below_or_at l
-    (λ h. List·getD-append (chosen S R n) (pick S R n (chosen S R n) ∷ []) 0 k (omega (arith, chosen_length S R n)) ∙ chosen_at S R n k h)
+    (λ h. get_or-append (chosen S R n) (pick S R n (chosen S R n) ∷ []) 0 k (omega (arith, chosen_length S R n)) ∙ chosen_at S R n k h)
     (λ e. ap (λ i. get_or (chosen S R n ++ (pick S R n (chosen S R n) ∷ [])) i 0) (omega (arith, chosen_length S R n))
     ∙ get_or-append-add (chosen S R n) (pick S R n (chosen S R n) ∷ []) 0 0 ∙ ap (λ x. pick S R x (chosen S R x)) (sym e))
 

@@ -1,6 +1,6 @@
 -- Lists of the numbers of which a statement holds: only one fits, and a test over a range writes it. Assumes nothing.
 use Rattle.tables.proofs.Kit.{ℕ, zero, suc, ◌+◌, ◌≤◌, ◌<◌, ◌≡◌, refl, sym, ap, ◌∙◌, subst, ◌⊎◌, inl, inr, ⊎_elim, ◌↔◌, Bool, true, false, cond}
-use Rattle.tables.proofs.Kit.{List, [], ◌∷◌, ◌++◌, arith, dec_lt, ℕ_discrete, length, get_or, length-append, List·getD-append, get_or-append-add, ext_get_or}
+use Rattle.tables.proofs.Kit.{List, [], ◌∷◌, ◌++◌, arith, dec_lt, ℕ_discrete, length, get_or, length-append, get_or-append, get_or-append-add, ext_get_or}
 use Rattle.tables.specs.{Document.{Document, node_count}, Pattern.Shape}
 use Rattle.tables.proofs.{Choice.below_or_at, Tests.Tells}
 use Rattle.placing.specs.Answer.{Started, In, Ascending, Lists}
@@ -61,7 +61,7 @@ lists_more P xs n a small = record {
     long = length-append xs (n ∷ []) ∙ omega arith
 
     front : (k : ℕ) → k < length xs → get_or ys k 0 ≡ get_or xs k 0
-    front k l = List·getD-append xs (n ∷ []) 0 k l
+    front k l = get_or-append xs (n ∷ []) 0 k l
 
     last : get_or ys (length xs) 0 ≡ n
     last = ap (λ i. get_or (xs ++ (n ∷ [])) i 0) (omega arith) ∙ get_or-append-add xs (n ∷ []) 0 0

@@ -1,5 +1,8 @@
 // What a pass over rows looks up of a pattern, filled once for a call: which steps fit a label, and to which steps a set of steps leads. The steps are bits.
 // An inner crate: its functions are there for the calls on Answers and Containment alone, and ask for what these have checked.
+
+#![tactic(auto)]
+
 ghost use Rattle.std.specs.Prelude.{◌≡◌, ◌↔◌, ℕ, ◌+◌, ◌*◌, ◌≤◌, ◌<◌, ◌^◌, T, length, get_or, replicate};
 ghost use Rattle.tables.specs.Bits.{bit, Marks};
 ghost use Rattle.tables.specs.Tree.{Child};
@@ -57,7 +60,7 @@ pub fn labelled(low: &[u64; BYTE], high: &[u64; BYTE], l: u16) -> u64
 }
 
 // Steps of a pattern past step 0: those of each axis, and those that hang on the step just before them; and the steps on which another than the next hangs.
-#[derive(Drop)]
+#[derive(Clone, Copy)]
 pub struct Sets {
     pub child: u64,
     pub descendant: u64,

@@ -1,6 +1,6 @@
 -- The main path has a step for each depth down to the output's, and every step from which the output can be reached is one of them. Assumes nothing.
 use Rattle.tables.proofs.Kit.{ℕ, zero, suc, ◌+◌, ◌-◌, ◌≤◌, ◌<◌, ◌≡◌, refl, sym, ap, ◌∙◌, subst, inl, inr}
-use Rattle.tables.proofs.Kit.{List, [], ◌∷◌, ◌++◌, arith, length, get_or, length-append, List·getD-append, get_or-append-add}
+use Rattle.tables.proofs.Kit.{List, [], ◌∷◌, ◌++◌, arith, length, get_or, length-append, get_or-append, get_or-append-add}
 use Rattle.tables.specs.{Tree.{Tree, Child, From}, Pattern.{Shape, ValidShape}}
 use Rattle.tables.proofs.{Choice.below_or_at, Trees.{Ordered, parent_lt, from_child}}
 use Rattle.tables.proofs.{Depth.{depth, depth_zero, depth_child, depth_le, depth_unique}, Rules.shape_ordered}
@@ -33,7 +33,7 @@ module _ {T : Tree} (v : Ordered T) where
       below_or_at {u = n} {k = suc (depth T q)} (omega arith)
       (λ g.
       let r = path_at_to k q (omega arith) (omega arith) n g in
-      subst (λ (x : ℕ). From T x (suc s) × (depth T x ≡ n)) (sym (List·getD-append (path_to T k q) (suc s ∷ []) 0 n (omega arith)))
+      subst (λ (x : ℕ). From T x (suc s) × (depth T x ≡ n)) (sym (get_or-append (path_to T k q) (suc s ∷ []) 0 n (omega arith)))
       (inr (from_child r.0 c), r.1))
       (λ z.
       subst (λ (x : ℕ). From T x (suc s) × (depth T x ≡ n))

@@ -1,4 +1,7 @@
 // Rewriting a query by a view (docs/RULES.md, "Rewriting").
+
+#![tactic(auto)]
+
 ghost use Rattle.std.specs.Prelude.{ℕ, ◌+◌, ◌-◌, ◌≤◌, ◌<◌, ◌≡◌, ◌↔◌, T, length, get_or};
 ghost use Rattle.tables.specs.Tree.{From};
 ghost use Rattle.tables.specs.Pattern.{Shape, shape_of, pattern_of, zero_pattern, ValidPattern};
@@ -14,7 +17,7 @@ use tables::{Checked, Pattern, Refusal, STEPS, StepNo};
 const MOST: usize = 32;
 
 // The candidate is handed over; or there is no rewriting; or the pair is refused.
-#[derive(Drop)]
+#[derive(Clone, Copy)]
 pub enum Rewriting {
     Handed,
     Nothing,
@@ -22,7 +25,7 @@ pub enum Rewriting {
 }
 
 // The answer, and beside it the compensation, all zero where none is handed over.
-#[derive(Drop)]
+#[derive(Clone, Copy)]
 pub struct RewritingAnswer {
     pub answer: Rewriting,
     pub pattern: Pattern,
@@ -124,7 +127,7 @@ fn agree(q: Pattern, v: Pattern, c: StepNo) -> bool
 }
 
 // Is there a candidate that may serve, and which? The pattern is zero where there is none.
-#[derive(Drop)]
+#[derive(Clone, Copy)]
 struct Tried {
     there: bool,
     pattern: Pattern,

@@ -1,5 +1,8 @@
 // The ground station's entries (docs/RULES.md, "From C"): every call on packets and byte slices. An answer is 0 or more; a refusal is minus its number. The
 // functions behind them answer as every call here does; `code` turns their answers into C's number.
+
+#![tactic(auto)]
+
 ghost use Rattle.tables.specs.Document.{document_of};
 ghost use Rattle.station.specs.Code.{Coded};
 ghost use Rattle.packet_patterns.specs.Contained.{ContainsPackets};

@@ -1,6 +1,8 @@
 // The kinds of number, the pattern table and the refusals that every call speaks of (docs/RULES.md, "Tables" and "Refusals").
 // A document is lent as two lists of 16-bit numbers and has no type of its own.
 
+#![tactic(auto)]
+
 ghost use Rattle.std.specs.Prelude.{ℕ, ◌≤◌, ◌<◌, ◌≡◌, ◌↔◌, length, get_or, T};
 ghost use Rattle.tables.specs.Document.{document_of, NodeRule};
 ghost use Rattle.tables.specs.Tree.{Hangs};
@@ -16,15 +18,15 @@ pub const STEPS: usize = 64;
 pub const NODES: usize = 2048;
 
 // The number of a step in a pattern.
-#[derive(Drop)]
+#[derive(Clone, Copy)]
 pub struct StepNo(pub u8);
 
 // The number of a node in a document.
-#[derive(Drop)]
+#[derive(Clone, Copy)]
 pub struct NodeNo(pub u16);
 
 // A pattern: the first `count` entries of the three arrays are its steps, the others are not read.
-#[derive(Drop)]
+#[derive(Clone, Copy)]
 pub struct Pattern {
     pub parent: [StepNo; STEPS],
     pub axis: [u8; STEPS],
@@ -34,7 +36,7 @@ pub struct Pattern {
 }
 
 // The reasons for which a call refuses. `number` of specs/Refusal.antt gives each its number, `refusal_number` the same in code.
-#[derive(Drop)]
+#[derive(Clone, Copy)]
 pub enum Refusal {
     Version,
     Length,
@@ -48,14 +50,14 @@ pub enum Refusal {
 }
 
 // The answer of a check: the table obeys the rules, or it is refused.
-#[derive(Drop)]
+#[derive(Clone, Copy)]
 pub enum Checked {
     Right,
     Refused(Refusal),
 }
 
 // The answer of a call that counts what it wrote: nodes, bytes or answers.
-#[derive(Drop)]
+#[derive(Clone, Copy)]
 pub enum Counted {
     Count(usize),
     Refused(Refusal),

@@ -1,0 +1,12 @@
+-- `tables::check_document` meets its contract: every node before the one looked at obeys its rule. Assumes nothing.
+use Rattle.tables.proofs.Kit.{ℕ, ◌-◌, ◌≤◌, ◌<◌, ◌≡◌, ⊎_elim, length, below_more}
+use Rattle.tables.proofs.Kit.{ltb-true, ltb-false, eqb-true, eqb-false, not-true, not-false, arith, rules}
+use Rattle.tables.specs.{declared.Refusal.TheVariants.BadDocument, Document.{NodeRule, document_of}}
+use Rattle.tables.proofs.{Refusals.refused, Tests.{passed, failed}}
+use Rattle.tables.proofs.check_document.Given as goal
+
+abbrev pub invariant-loop-i : goal.invariant-loop-i
+invariant-loop-i l = (l.i ≤ l.n) × (length l.labels ≡ length l.parents) × ((k : ℕ) → k < l.i → NodeRule (document_of l.parents l.labels) k)
+
+abbrev pub decreases-loop-i : goal.decreases-loop-i
+decreases-loop-i l = l.n - l.i
