@@ -11,7 +11,7 @@ loop-k-preserved c =
     let a = c.args in
     let e : 0 + 2 * l.k ≡ 2 * l.k = omega arith in (
       omega arith,
-      rows_next (half_bytes a.list.now) 0 2 a.out.now l.k l.out _ (omega arith) (λ j. refl) c.put_half.auto.0
+      rows_next (half_bytes a.list.now) 0 2 a.out.now l.k l.out _ (omega arith) (λ j. refl) c.put_half.auto.out
           (rw e c.put_half.ensures) l.invariant.1,
     )
 
