@@ -1,7 +1,7 @@
 -- Laws of blocks, of columns, of arrays that are zero past their first entries, and of steps in arrays. Assumes nothing.
 use Rattle.tables.proofs.Kit.{ℕ, zero, suc, ◌+◌, ◌*◌, ◌-◌, ◌≤◌, ◌<◌, ◌≡◌, refl, sym, ap, ap₂, ◌∙◌, subst}
 use Rattle.tables.proofs.Kit.{List, [], ◌∷◌, ◌++◌, map, append_assoc, arith, zero-mul, suc-mul, add-one, length, get_or, set, take, drop}
-use Rattle.tables.proofs.Kit.{replicate, length-append, length-drop, length-replicate, length-map, List·getD-append, List·getD-map}
+use Rattle.tables.proofs.Kit.{replicate, length-append, length-drop, length-replicate, length-map, get_or-append, get_or-map}
 use Rattle.tables.proofs.Kit.{get_or-append-add, drop-cons, drop-drop, drop-append-add, take_at, set_at, ext_get_or}
 use Rattle.tables.specs.{Column.{blocks, column, padded, step_no, step_array, bare_numbers_of}, declared.StepNo.StepNo}
 use Rattle.tables.proofs.Choice.{below_or_at}
@@ -18,7 +18,7 @@ pub blocks_at : (b : ℕ → List ℕ) (n k r : ℕ) → k < n → r < length (b
 unfolding blocks
 blocks_at b zero k r l m = absurd (omega arith)
 blocks_at b (suc n) k r l m = below_or_at l
-    (λ h. List·getD-append (blocks b n) (b n) 0 (length (blocks b k) + r) (omega (arith, blocks_fit b n k h)) ∙ blocks_at b n k r h m)
+    (λ h. get_or-append (blocks b n) (b n) 0 (length (blocks b k) + r) (omega (arith, blocks_fit b n k h)) ∙ blocks_at b n k r h m)
     (λ e. subst (λ (x : ℕ). get_or (blocks b n ++ b n) (length (blocks b x) + r) 0 ≡ get_or (b x) r 0) (sym e) (get_or-append-add (blocks b n) (b n) r 0))
 
 -- blocks of one width
@@ -67,7 +67,7 @@ pub padded_next : (f : ℕ → ℕ) (xs : List ℕ) (k v : ℕ) → k < 64 → v
 padded_next f xs k v l e g = rw g (column_next f (replicate 64 0) k v l e)
 
 pub padded_at : (f : ℕ → ℕ) (n k : ℕ) → k < n → get_or (padded f n) k 0 ≡ f k
-padded_at f n k l = List·getD-append (column f n) (drop n (replicate 64 0)) 0 k (omega (arith, column_length f n)) ∙ column_at f n k l
+padded_at f n k l = get_or-append (column f n) (drop n (replicate 64 0)) 0 k (omega (arith, column_length f n)) ∙ column_at f n k l
 
 pub padded_length : (f : ℕ → ℕ) (n : ℕ) → n ≤ 64 → length (padded f n) ≡ 64
 padded_length f n l =
@@ -89,7 +89,7 @@ steps_next f xs k v l e g = rw g (map_set (padded f k) k v ∙ ap (map step_no) 
 
 pub steps_at : (f : ℕ → ℕ) (n k : ℕ) → k < n → get_or (step_array f n) k (step_no 0) ≡ step_no (f k)
 unfolding step_array
-steps_at f n k l = List·getD-map step_no (padded f n) k 0 ∙ ap step_no (padded_at f n k l)
+steps_at f n k l = get_or-map step_no (padded f n) k 0 ∙ ap step_no (padded_at f n k l)
 
 pub steps_ext : (f g : ℕ → ℕ) (n : ℕ) → ((k : ℕ) → k < n → f k ≡ g k) → step_array f n ≡ step_array g n
 unfolding step_array
@@ -97,7 +97,7 @@ steps_ext f g n h = ap (map step_no) (padded_ext f g n h)
 
 -- the number of a step
 pub bare_at : (steps : List StepNo) (k : ℕ) → get_or (bare_numbers_of steps) k 0 ≡ (get_or steps k (step_no 0)).0
-bare_at steps k = List·getD-map (λ s. s.0) steps k (step_no 0)
+bare_at steps k = get_or-map (λ s. s.0) steps k (step_no 0)
 
 -- the numbers of all steps, taken one by one
 pub bare_all : (steps : List StepNo) → length steps ≡ 64 → padded (λ k. (get_or steps k (step_no 0)).0) 64 ≡ bare_numbers_of steps

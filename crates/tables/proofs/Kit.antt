@@ -11,7 +11,7 @@ pub use native.Mathlib.Nat.{mul-zero, mul-suc, add-zero, add_assoc, pow-suc, pow
 pub use native.Mathlib.Numerals.{add-one}
 pub use lib.Dec.{T, ltb, eqb, lit<, ltb→lt, lt→ltb, eqb→eq, eqb_refl}
 pub use lib.ListN.{length, get_or, set, take, drop, replicate, length-append, length-set, length-drop, length-take, length-replicate}
-pub use lib.ListN.{get_or-replicate, take-append-drop, get_or-eq_default as List·getD-eq-default, length-map, get_or-append as List·getD-append, get_or-map as List·getD-map}
+pub use lib.ListN.{get_or-replicate, take-append-drop, get_or-eq_default, length-map, get_or-append, get_or-map}
 pub use lib.Seq.{get_or-set_same, get_or-set_other, get_or-append-add, sets-eq, drop-cons, drop-drop, drop-append-add, set_split, take_at}
 pub use lib.Seq.{set_at, ext_get_or, take_all, take-take, take-add, length-take-le, get_or-take, get_or-drop, take-suc, append_snoc, drop_at}
 pub use lib.Bits.{bit_or, bit_and, bit_xor, or_shifted_r, or_shr, or_step, and_shr, and_step, xor_shr, xor_add_and}

@@ -1,0 +1,15 @@
+-- `packets::put_pattern` meets its contract: the header and the steps before the one looked at are written. Assumes nothing.
+use Rattle.tables.proofs.Kit.{ℕ, ◌+◌, ◌*◌, ◌-◌, ◌≤◌, ◌≡◌, refl, ap, ◌∙◌, List, [], ◌∷◌, ◌++◌, arith, length, set, drop, length-set}
+use Rattle.tables.specs.Pattern.{Shape, shape_of}
+use Rattle.tables.proofs.Columns.{put_next}
+use Rattle.halves.specs.Bytes.{high, low}
+use Rattle.packets.specs.PatternPacket.{pattern_length, pattern_packet, step_bytes}
+use Rattle.packets.proofs.PatternTrip.{head, step_four}
+use Rattle.halves.proofs.Rows.{RowsPut, rows_none, rows_next, rows_all}
+use Rattle.packets.proofs.put_pattern.Given as goal
+
+abbrev pub invariant-loop-k : goal.invariant-loop-k
+invariant-loop-k l = (l.k ≤ l.n) × (4 + 4 * l.n ≤ length l.initial.out) × RowsPut (step_bytes (shape_of l.p)) 4 4 l.initial.out l.k l.out
+
+abbrev pub decreases-loop-k : goal.decreases-loop-k
+decreases-loop-k l = l.n - l.k
