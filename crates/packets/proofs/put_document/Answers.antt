@@ -13,7 +13,7 @@ loop-i-preserved c =
     let a = x.args in
     let d = document_of a.parents.now a.labels.now in (
       omega arith,
-      rows_next (node_bytes d) 3 4 _ l.i l.out _ (omega arith) (node_four d) c.put_node.auto.0 c.put_node.ensures
+      rows_next (node_bytes d) 3 4 _ l.i l.out _ (omega arith) (node_four d) c.put_node.auto.out c.put_node.ensures
           l.invariant.1,
     )
 
@@ -66,4 +66,4 @@ pub loop-i-smaller : goal.loop-i-smaller
 loop-i-smaller c = omega arith
 
 pub shape_of-out : goal.shape_of-out
-shape_of-out c = c.loop-i.invariant.1.same ∙ c.put_head.auto.0
+shape_of-out c = c.loop-i.invariant.1.same ∙ c.put_head.auto.out

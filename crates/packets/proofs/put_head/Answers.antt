@@ -14,4 +14,4 @@ pub put_half-requires : goal.put_half-requires
 put_half-requires c = simp length-set (omega arith)
 
 pub shape_of-out : goal.shape_of-out
-shape_of-out c = c.put_half.auto.0 ∙ length-set c.args.out.now 0 1
+shape_of-out c = c.put_half.auto.out ∙ length-set c.args.out.now 0 1

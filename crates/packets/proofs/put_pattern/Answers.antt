@@ -26,15 +26,15 @@ loop-k-preserved c =
     let p = x.args.p in (
       omega arith,
       l.invariant.1,
-      rows_next (step_bytes (shape_of p)) 4 4 _ l.k l.out _ (omega arith) (step_four (shape_of p)) x.put_step.auto.0 x.put_step.ensures l.invariant.2,
+      rows_next (step_bytes (shape_of p)) 4 4 _ l.k l.out _ (omega arith) (step_four (shape_of p)) x.put_step.auto.out x.put_step.ensures l.invariant.2,
     )
 
 pub returns : goal.returns
 returns c =
     let l = c.loop-k in let h = c.put_head in
     let a = c.args in
-    let e : l.k ≡ a.t1.count = omega arith in
-    all (shape_of a.t1) a.out.now _ _ l.out (omega arith) h.ensures refl (rw e at l.invariant.2)
+    let e : l.k ≡ a.p.count = omega arith in
+    all (shape_of a.p) a.out.now _ _ l.out (omega arith) h.ensures refl (rw e at l.invariant.2)
 
 pub overflow_mul-n : goal.overflow_mul-n
 overflow_mul-n c = omega arith
@@ -49,10 +49,10 @@ pub put_head-requires : goal.put_head-requires
 put_head-requires c = omega arith
 
 pub bounds-out-3 : goal.bounds-out-3
-bounds-out-3 c = omega (arith, c.put_head.auto.0)
+bounds-out-3 c = omega (arith, c.put_head.auto.out)
 
 pub loop-k-init : goal.loop-k-init
-loop-k-init c = (omega arith, simp length-set (omega (arith, c.put_head.auto.0)), rows_none _ 4 4 _)
+loop-k-init c = (omega arith, simp length-set (omega (arith, c.put_head.auto.out)), rows_none _ 4 4 _)
 
 pub overflow_mul-k : goal.overflow_mul-k
 overflow_mul-k c = omega arith
@@ -82,4 +82,4 @@ pub loop-k-smaller : goal.loop-k-smaller
 loop-k-smaller c = omega arith
 
 pub shape_of-out : goal.shape_of-out
-shape_of-out c = c.loop-k.invariant.2.same ∙ simp length-set c.put_head.auto.0
+shape_of-out c = c.loop-k.invariant.2.same ∙ simp length-set c.put_head.auto.out

@@ -18,4 +18,4 @@ pub put_half-requires : goal.put_half-requires
 put_half-requires c = simp length-set (omega arith)
 
 pub shape_of-out : goal.shape_of-out
-shape_of-out c = c.put_half.auto.0 ∙ simp length-set refl
+shape_of-out c = c.put_half.auto.out ∙ simp length-set refl

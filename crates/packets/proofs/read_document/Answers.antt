@@ -27,17 +27,17 @@ abbrev lent : tie.In-Count-2 → List ℕ × List ℕ
 lent x = ((entry x).args.parents.now, (entry x).args.labels.now)
 
 -- where the nodes are counted they stand in the call's own lists
-nodes : (x : tie.In-Count-2) → ReadsNodes (bytes x) (replicate 2048 0) (replicate 2048 0) (Count x.n-1.ARM) (own x).0 (own x).1
-nodes x = subst (λ r. ReadsNodes (bytes x) (replicate 2048 0) (replicate 2048 0) r (own x).0 (own x).1) x.n-1.is (read x).read_nodes.ensures
+nodes : (x : tie.In-Count-2) → ReadsNodes (bytes x) (replicate 2048 0) (replicate 2048 0) (Count x.in-Count.n) (own x).0 (own x).1
+nodes x = subst (λ r. ReadsNodes (bytes x) (replicate 2048 0) (replicate 2048 0) r (own x).0 (own x).1) x.in-Count.is (read x).read_nodes.ensures
 
 header : (x : tie.In-Count-2) → Head (bytes x) 0 2048
 header x = head_of (bytes x) 0 2048 (passes_front (head_checks (bytes x) 0 2048) (lists_check (bytes x) _ _) (nodes x).0)
 
-few : (x : tie.In-Count-2) → (x.n-1.ARM ≤ length (own x).0) × (x.n-1.ARM ≤ length (own x).1)
+few : (x : tie.In-Count-2) → (x.in-Count.n ≤ length (own x).0) × (x.in-Count.n ≤ length (own x).1)
 few x = let l = nodes_few (header x) in (omega (arith, (nodes x).1.0, l, (read x).read_nodes.auto), omega (arith, (nodes x).1.0, l, (read x).read_nodes.auto))
 
-fronts : (x : tie.In-Count-2) → document_of (take x.n-1.ARM (own x).0) (take x.n-1.ARM (own x).1) ≡ packet_document (bytes x)
-fronts x = document_fronts (bytes x) (own x).0 (own x).1 _ _ x.n-1.ARM (nodes x).1.0 (nodes x).1.1 (nodes x).1.2
+fronts : (x : tie.In-Count-2) → document_of (take x.in-Count.n (own x).0) (take x.in-Count.n (own x).1) ≡ packet_document (bytes x)
+fronts x = document_fronts (bytes x) (own x).0 (own x).1 _ _ x.in-Count.n (nodes x).1.0 (nodes x).1.1 (nodes x).1.2
 
 -- and past the next test the document obeys the rules
 abbrev counted : tie.In_default → tie.In-Count-2
@@ -45,26 +45,26 @@ counted y = y.before.before.before.before.before.before
 
 valid : (y : tie.In_default) → ValidDocument (packet_document (bytes (counted y)))
 valid y = subst ValidDocument (fronts (counted y))
-    (subst (ChecksDocument (document_of (take (counted y).n-1.ARM (own (counted y)).0) (take (counted y).n-1.ARM (own (counted y)).1)))
-    y.enum_told-1.is y.check_document.ensures).0.0
+    (subst (ChecksDocument (document_of (take (counted y).in-Count.n (own (counted y)).0) (take (counted y).in-Count.n (own (counted y)).1)))
+    y.in_default.is y.check_document.ensures).0.0
 
 pub returns-in-Refused : goal.returns-in-Refused
 returns-in-Refused c =
     let d = c.before.before.before.before.before in
     let a = d.args in let bs = a.s.now in
     let h = subst (λ r. ReadsNodes bs (replicate 2048 0) (replicate 2048 0) r d.read_nodes.new.parents d.read_nodes.new.labels)
-    c.r-1.is d.read_nodes.ensures in
+    c.in-Refused.is d.read_nodes.ensures in
     let l = length-replicate {A = ℕ} 2048 0 in (
       refuses_front (head_checks bs 0 2048) (document_right (packet_document bs) ++ lists_check bs (length a.parents.now) (length a.labels.now))
-          c.r-1.ARM (nodes_refused bs _ _ (omega (arith, l)) (omega (arith, l)) c.r-1.ARM h.0),
+          c.in-Refused.r (nodes_refused bs _ _ (omega (arith, l)) (omega (arith, l)) c.in-Refused.r h.0),
       (refl, refl),
     )
 
 pub returns-in-Refused-check_document : goal.returns-in-Refused-check_document
 returns-in-Refused-check_document c =
     let k = c.check_document in
-    let x = c.before.before.before.before.before.before.before in let r = c.r-in-Refused-check_document-1.ARM in
-    let v = subst (ChecksDocument (packet_document (bytes x))) c.r-in-Refused-check_document-1.is (subst (λ d. ChecksDocument d k.result) (fronts x) k.ensures) in (
+    let x = c.before.before.before.before.before.before.before in let r = c.in-Refused-check_document.r in
+    let v = subst (ChecksDocument (packet_document (bytes x))) c.in-Refused-check_document.is (subst (λ d. ChecksDocument d k.result) (fronts x) k.ensures) in (
       refuses_rest (head_checks (bytes x) 0 2048) (document_right (packet_document (bytes x)) ++ lists_check (bytes x) (length (lent x).0) (length (lent x).1)) r
           (head_passes (header x)) (refuses_front (document_right (packet_document (bytes x))) (lists_check (bytes x) (length (lent x).0) (length (lent x).1))
           r v.0),
@@ -97,7 +97,7 @@ pub returns : goal.returns
 returns c =
     let k = c.before.before.before.before.before.before.before in let e = k.before.before.before in
     let y = e.before.before in let x = counted y in
-    let n = x.n-1.ARM in let m = (nodes x).1.0 in
+    let n = x.in-Count.n in let m = (nodes x).1.0 in
     let room = e.if-labels-n.false in
     let f : k.copy.new.dst ≡ take n (own x).0 ++ drop n (lent x).0 = k.copy.ensures in
     let g : c.copy-2.new.dst ≡ take n (own x).1 ++ drop n (lent x).1 = c.copy-2.ensures in (

@@ -16,15 +16,15 @@ abbrev second : tie.In-Count-2 → ℕ
 second x = length (entry x).args.labels.now
 
 -- where the nodes are counted the header is right
-headed : (x : tie.In-Count-2) → Headed (entry x).args.s.now 0 2048 (Count x.n-1.ARM)
-headed x = subst (Headed (entry x).args.s.now 0 2048) x.n-1.is x.rows_in.ensures
+headed : (x : tie.In-Count-2) → Headed (entry x).args.s.now 0 2048 (Count x.in-Count.n)
+headed x = subst (Headed (entry x).args.s.now 0 2048) x.in-Count.is x.rows_in.ensures
 
 pub returns-in-Refused : goal.returns-in-Refused
 returns-in-Refused c =
     let a = c.args in
-    let h = subst (Headed a.s.now 0 2048) c.r-1.is c.rows_in.ensures in (
+    let h = subst (Headed a.s.now 0 2048) c.in-Refused.is c.rows_in.ensures in (
       refuses_front (head_checks a.s.now 0 2048) (lists_check a.s.now (length a.parents.now) (length a.labels.now))
-          c.r-1.ARM h.0,
+          c.in-Refused.r h.0,
       (refl, refl),
     )
 
@@ -55,7 +55,7 @@ unfolding packet_document
 returns c =
     let g = c.before.before.before.before.before.before in let e = g.before.before in
     let x = e.before.before.before in let bs = (entry x).args.s.now in
-    let n = x.n-1.ARM in let p = (entry x).args.parents.now in
+    let n = x.in-Count.n in let p = (entry x).args.parents.now in
     let l = (entry x).args.labels.now in let m = (headed x).1 in
     let f : g.get_halves.new.list ≡ column (λ i. half bs (3 + 4 * i)) n ++ drop n p = g.get_halves.ensures in
     let h : c.get_halves-2.new.list ≡ column (λ i. half bs (5 + 4 * i)) n ++ drop n l = c.get_halves-2.ensures in

@@ -12,14 +12,14 @@ abbrev entry : tie.In-Count-2 → tie.Start
 entry x = x.before.before.before.before
 
 -- where the steps are counted the header is right
-headed : (x : tie.In-Count-2) → Headed (entry x).args.s.now 1 64 (Count x.n-1.ARM)
-headed x = subst (Headed (entry x).args.s.now 1 64) x.n-1.is x.rows_in.ensures
+headed : (x : tie.In-Count-2) → Headed (entry x).args.s.now 1 64 (Count x.in-Count.n)
+headed x = subst (Headed (entry x).args.s.now 1 64) x.in-Count.is x.rows_in.ensures
 
 pub returns-in-Refused : goal.returns-in-Refused
 returns-in-Refused c =
     let bs = c.args.s.now in
-    let h = subst (Headed bs 1 64) c.r-1.is c.rows_in.ensures in
-    (refuses_front (head_checks bs 1 64) (pattern_right (packet_pattern bs)) c.r-1.ARM h.0, c.no_pattern.ensures)
+    let h = subst (Headed bs 1 64) c.in-Refused.is c.rows_in.ensures in
+    (refuses_front (head_checks bs 1 64) (pattern_right (packet_pattern bs)) c.in-Refused.r h.0, c.no_pattern.ensures)
 
 pub pattern_in-p-requires : goal.pattern_in-p-requires
 pattern_in-p-requires c =
@@ -30,7 +30,7 @@ pub returns-in-Right : goal.returns-in-Right
 returns-in-Right c =
     let k = c.before.before in let q = k.pattern_in-p in
     let x = k.before.before.before in let bs = (entry x).args.s.now in
-    let v = subst (λ p. Passes (pattern_right p)) q.ensures (subst (ChecksPattern q.result) c.enum_told-1.is k.check_pattern.ensures).0 in
+    let v = subst (λ p. Passes (pattern_right p)) q.ensures (subst (ChecksPattern q.result) c.in-Right.is k.check_pattern.ensures).0 in
     (passes_both (head_checks bs 1 64) (pattern_right (packet_pattern bs)) (headed x).0 v, q.ensures)
 
 pub returns-in-Refused-check_pattern : goal.returns-in-Refused-check_pattern
@@ -38,6 +38,6 @@ returns-in-Refused-check_pattern c =
     let y = c.before.before in let k = y.before.before in
     let q = k.pattern_in-p in let x = k.before.before.before in
     let bs = (entry x).args.s.now in
-    let v = subst (λ p. Refuses (pattern_right p) y.r-in-Refused-check_pattern-1.ARM) q.ensures
-    (subst (ChecksPattern q.result) y.r-in-Refused-check_pattern-1.is k.check_pattern.ensures).0 in
-    (refuses_rest (head_checks bs 1 64) (pattern_right (packet_pattern bs)) y.r-in-Refused-check_pattern-1.ARM (headed x).0 v, c.no_pattern-in-Refused-check_pattern.ensures)
+    let v = subst (λ p. Refuses (pattern_right p) y.in-Refused-check_pattern.r) q.ensures
+    (subst (ChecksPattern q.result) y.in-Refused-check_pattern.is k.check_pattern.ensures).0 in
+    (refuses_rest (head_checks bs 1 64) (pattern_right (packet_pattern bs)) y.in-Refused-check_pattern.r (headed x).0 v, c.no_pattern-in-Refused-check_pattern.ensures)

@@ -8,10 +8,10 @@ returns-in-Right c =
     let x = c.read_pattern-x in
     let y = c.read_pattern-y in
     let a = c.args in
-    first_read a.a.now a.b.now x.result y.result x.ensures y.ensures c.enum_told-1.is
+    first_read a.a.now a.b.now x.result y.result x.ensures y.ensures c.in-Right.is
 
 pub returns-in-Refused : goal.returns-in-Refused
 returns-in-Refused c =
     let x = c.read_pattern-x in
     let a = c.args in
-    first_refused a.a.now a.b.now x.result x.ensures c.first-1.ARM c.first-1.is
+    first_refused a.a.now a.b.now x.result x.ensures c.in-Refused.r c.in-Refused.is

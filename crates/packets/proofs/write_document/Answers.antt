@@ -9,12 +9,12 @@ document x = document_of x.args.parents.now
     x.args.labels.now
 
 valid : (x : goal.In_default) → ValidDocument (document x)
-valid x = (subst (ChecksDocument (document x)) x.enum_told-1.is x.check_document.ensures).0.0
+valid x = (subst (ChecksDocument (document x)) x.in_default.is x.check_document.ensures).0.0
 
 pub returns-in-Refused : goal.returns-in-Refused
 returns-in-Refused c =
     let k = c.before.before.before in let a = k.args in
-    let v = subst (ChecksDocument (document_of a.parents.now a.labels.now)) c.r-1.is k.check_document.ensures in
+    let v = subst (ChecksDocument (document_of a.parents.now a.labels.now)) c.in-Refused.is k.check_document.ensures in
     (⊎_elim inl (λ w. absurd w.1) v.0, refl)
 
 pub returns-then-out-size : goal.returns-then-out-size

@@ -7,7 +7,7 @@ use Rattle.packets.proofs.write_pattern.Tie as tie
 
 -- past the first test the pattern obeys the rules
 valid : (x : tie.In_default) → ValidPattern x.args.p
-valid x = (subst (ChecksPattern x.args.p) x.enum_told-1.is x.check_pattern.ensures).0.0
+valid x = (subst (ChecksPattern x.args.p) x.in_default.is x.check_pattern.ensures).0.0
 
 -- the count is the packet's length, however it is reckoned
 put : (p : Pattern) (before after : List ℕ) (c : ℕ) → c ≡ length_of p → after ≡ pattern_packet (shape_of p) ++ drop (length_of p) before → PacketPut p before c
@@ -17,7 +17,7 @@ put p before after c e f = (e, f ∙ ap (λ m. pattern_packet (shape_of p) ++ dr
 pub returns-in-Refused : goal.returns-in-Refused
 returns-in-Refused c =
     let k = c.before.before.before in
-    let v = subst (ChecksPattern k.args.p) c.r-1.is k.check_pattern.ensures in
+    let v = subst (ChecksPattern k.args.p) c.in-Refused.is k.check_pattern.ensures in
     (⊎_elim inl (λ w. absurd w.1) v.0, refl)
 
 pub returns-then-out-size : goal.returns-then-out-size

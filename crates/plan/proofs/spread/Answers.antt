@@ -1,0 +1,45 @@
+-- `plan::spread` meets its contract. The loop's invariant: the table is that of the first t steps. Assumes nothing.
+use Rattle.tables.proofs.Kit.{◌-◌, ◌%◌, ◌≤◌, ◌≡◌, arith, pow_mono, get_or}
+use Rattle.tables.proofs.{Bits.shl_one, Marks.marks_bits}
+use Rattle.tables.specs.Bits.{bit}
+use Rattle.plan.specs.Leading.{Spread}
+use Rattle.plan.proofs.Bytes.{spread_none, spread_more}
+use Rattle.plan.proofs.spread.Goals as goal
+
+pub loop-t-init : goal.loop-t-init
+loop-t-init c = (omega arith, rw c.requires.1 (spread_none _))
+
+pub double-requires : goal.double-requires
+double-requires c =
+    let m = c.before.before.before in let p = pow_mono {i = m.loop-t.t % 8} {j = 7} (omega arith) in
+    (m.loop-t.invariant.1.size, rw (shl_one (m.loop-t.t % 8) (omega arith)) (omega arith))
+
+pub loop-t-preserved : goal.loop-t-preserved
+loop-t-preserved c =
+    let m = c.before.before.before.before in
+    let t = m.loop-t.t in (
+      omega arith,
+      spread_more _ t (get_or m.args.to.now t 0) m.loop-t.table c.double.new.table (omega arith) m.loop-t.invariant.1 (marks_bits _)
+          (rw (shl_one (t % 8) (omega arith)) at c.double.ensures),
+    )
+
+pub returns : goal.returns
+returns c = let e : c.loop-t.t ≡ c.args.n = omega arith in rw e at c.loop-t.invariant.1
+
+pub overflow_mul-t : goal.overflow_mul-t
+overflow_mul-t c = omega arith
+
+pub overflow_shl-t : goal.overflow_shl-t
+overflow_shl-t c = omega arith
+
+pub offset_bounds-to-t : goal.offset_bounds-to-t
+offset_bounds-to-t c = omega arith
+
+pub bounds-to-t : goal.bounds-to-t
+bounds-to-t c = omega arith
+
+pub overflow_step-t : goal.overflow_step-t
+overflow_step-t c = omega arith
+
+pub loop-t-smaller : goal.loop-t-smaller
+loop-t-smaller c = omega arith
