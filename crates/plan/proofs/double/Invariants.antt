@@ -1,6 +1,6 @@
 -- `plan::double` meets its contract. The loop's invariant: u of the new entries are written, the others are as they were. Assumes nothing.
-use Rattle.tables.proofs.Kit.{◌-◌, ◌≤◌, arith}
-use Rattle.plan.proofs.Bytes.{Doubling, doubling_none, doubling_more, doubling_all}
+use Rattle.tables.proofs.Kit.{◌-◌, ◌≤◌}
+use Rattle.plan.proofs.Bytes.{Doubling}
 use Rattle.plan.proofs.double.Given as goal
 
 abbrev pub invariant-loop-u : goal.invariant-loop-u

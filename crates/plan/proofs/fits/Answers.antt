@@ -1,6 +1,5 @@
 -- `plan::fits` meets its contract: the steps of the label that lack nothing. Assumes nothing.
 use Rattle.plan.proofs.FitSteps.{fits_from}
-use borrow.Author.Rules.{rules}
 use Rattle.plan.proofs.fits.Goals as goal
 
 pub returns : goal.returns

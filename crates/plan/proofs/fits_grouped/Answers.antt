@@ -1,6 +1,5 @@
 -- `plan::fits_grouped` meets its contract: the steps of the label that lack nothing, by the shift and the groups. Assumes nothing.
 use Rattle.plan.proofs.FitSteps.{lacking_grouped, fits_from, fits_none}
-use borrow.Author.Rules.{rules}
 use Rattle.plan.proofs.fits_grouped.Goals as goal
 
 pub returns-then-mask-eq0 : goal.returns-then-mask-eq0

@@ -1,7 +1,6 @@
 -- `plan::group` meets its contract. The loop's invariant: the steps before s have had their turn. Assumes nothing.
-use Rattle.tables.proofs.Kit.{◌-◌, ◌≤◌, ◌≡◌, refl, ap, ⊎_elim, arith, length, length-set}
+use Rattle.tables.proofs.Kit.{◌-◌, ◌≤◌, ◌≡◌, length}
 use Rattle.plan.specs.Leading.{Groups}
-use Rattle.plan.proofs.Groups.{groups_none, groups_skip, groups_more}
 use Rattle.plan.proofs.group.Given as goal
 
 abbrev pub invariant-loop-s : goal.invariant-loop-s

@@ -1,5 +1,5 @@
 -- `plan::has_bit` meets its contract: the flag of an equality tells it. Assumes nothing.
-use Rattle.tables.proofs.Kit.{◌/◌, ◌%◌, ◌^◌, rules}
+use Rattle.tables.proofs.Kit.{◌/◌, ◌%◌, ◌^◌}
 use Rattle.tables.specs.Bits.{bit}
 use Rattle.tables.proofs.Tests.{tells_eq}
 use Rattle.plan.proofs.has_bit.Goals as goal

@@ -1,8 +1,6 @@
 -- `plan::label_steps` meets its contract. The loop's invariant: the steps below s stand in both tables, by the bytes of their labels. Assumes nothing.
-use Rattle.tables.proofs.Kit.{ℕ, ◌-◌, ◌/◌, ◌%◌, ◌≤◌, ◌<◌, ◌≡◌, arith, length-replicate, length-set, get_or, length}
-use Rattle.tables.specs.Pattern.{shape_of}
-use Rattle.tables.proofs.MarkTables.{label_small, Keyed, keyed_none, keyed_more}
-use Rattle.plan.proofs.Steps.{labelled_all}
+use Rattle.tables.proofs.Kit.{◌-◌, ◌/◌, ◌%◌, ◌≤◌, ◌≡◌, get_or, length}
+use Rattle.tables.proofs.MarkTables.{Keyed}
 use Rattle.plan.proofs.label_steps.Given as goal
 
 abbrev pub invariant-loop-s : goal.invariant-loop-s

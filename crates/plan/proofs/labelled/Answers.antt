@@ -1,6 +1,5 @@
 -- `plan::labelled` meets its contract: two bytes tell whether a label fits. Assumes nothing.
 use Rattle.plan.proofs.Steps.{of_label}
-use borrow.Author.Rules.{rules}
 use Rattle.plan.proofs.labelled.Goals as goal
 
 pub returns : goal.returns

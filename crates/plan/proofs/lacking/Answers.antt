@@ -1,5 +1,5 @@
 -- `plan::lacking` meets its contract: by the table where a step of the mask is forked, else by the shift. Assumes nothing.
-use Rattle.tables.proofs.Kit.{arith, rules}
+use Rattle.tables.proofs.Kit.{arith}
 use Rattle.plan.proofs.FitSteps.{lacking_table, lacking_shift}
 use Rattle.plan.proofs.lacking.Goals as goal
 

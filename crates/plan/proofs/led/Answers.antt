@@ -1,5 +1,5 @@
 -- `plan::led` meets its contract: by the table where a step of x is forked, else by the shift. Assumes nothing.
-use Rattle.tables.proofs.Kit.{arith, rules}
+use Rattle.tables.proofs.Kit.{arith}
 use Rattle.tables.specs.Tree.{Child}
 use Rattle.tables.proofs.Marks.{bits_lt}
 use Rattle.plan.proofs.{Bytes.look_up_led, Shifts.shift_up}

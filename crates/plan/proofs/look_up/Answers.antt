@@ -1,5 +1,5 @@
 -- `plan::look_up` meets its contract. The loop's invariant: `r` is what the first c bytes find. Assumes nothing.
-use Rattle.tables.proofs.Kit.{◌-◌, ◌≤◌, ◌≡◌, refl, add-one, arith}
+use Rattle.tables.proofs.Kit.{◌≡◌, refl, add-one, arith}
 use Rattle.plan.specs.Leading.{looked_up}
 use Rattle.plan.proofs.look_up.Goals as goal
 
@@ -13,27 +13,3 @@ loop-c-preserved c = let m = c.before.before in (omega arith, rw (add-one m.loop
 
 pub returns : goal.returns
 returns c = let e : c.loop-c.c ≡ 8 = omega arith in rw e at c.loop-c.invariant.1
-
-pub overflow_mul-r : goal.overflow_mul-r
-overflow_mul-r c = omega arith
-
-pub overflow_mul-r-in-loop-c : goal.overflow_mul-r-in-loop-c
-overflow_mul-r-in-loop-c c = omega arith
-
-pub overflow_shr-r : goal.overflow_shr-r
-overflow_shr-r c = omega arith
-
-pub overflow_add-r : goal.overflow_add-r
-overflow_add-r c = omega arith
-
-pub offset_bounds-table-c : goal.offset_bounds-table-c
-offset_bounds-table-c c = omega arith
-
-pub bounds-table-c : goal.bounds-table-c
-bounds-table-c c = omega arith
-
-pub overflow_step-c : goal.overflow_step-c
-overflow_step-c c = omega arith
-
-pub loop-c-smaller : goal.loop-c-smaller
-loop-c-smaller c = omega arith

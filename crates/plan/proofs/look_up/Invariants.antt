@@ -1,5 +1,5 @@
 -- `plan::look_up` meets its contract. The loop's invariant: `r` is what the first c bytes find. Assumes nothing.
-use Rattle.tables.proofs.Kit.{◌-◌, ◌≤◌, ◌≡◌, refl, add-one, arith}
+use Rattle.tables.proofs.Kit.{◌-◌, ◌≤◌, ◌≡◌}
 use Rattle.plan.specs.Leading.{looked_up}
 use Rattle.plan.proofs.look_up.Given as goal
 

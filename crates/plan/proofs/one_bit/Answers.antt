@@ -1,5 +1,4 @@
 -- `plan::one_bit` meets its contract. Assumes nothing.
-use borrow.Author.Rules.{rules}
 use Rattle.tables.proofs.Bits.{shl_one}
 use Rattle.plan.proofs.one_bit.Goals as goal
 

@@ -1,8 +1,7 @@
 -- `plan::reached` meets its contract. The loop's invariant: `x` has what the entries before k give. Assumes nothing.
-use Rattle.tables.proofs.Kit.{◌-◌, ◌≤◌, ◌≡◌, ⊎_elim, arith}
+use Rattle.tables.proofs.Kit.{◌-◌, ◌≤◌}
 use Rattle.tables.specs.Bits.{Marks}
 use Rattle.plan.specs.Leading.{Reached}
-use Rattle.plan.proofs.Groups.{reached_none, reached_skip, reached_more}
 use Rattle.plan.proofs.reached.Given as goal
 
 abbrev pub invariant-loop-k : goal.invariant-loop-k

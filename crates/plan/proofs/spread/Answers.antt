@@ -1,8 +1,6 @@
 -- `plan::spread` meets its contract. The loop's invariant: the table is that of the first t steps. Assumes nothing.
-use Rattle.tables.proofs.Kit.{◌-◌, ◌%◌, ◌≤◌, ◌≡◌, arith, pow_mono, get_or}
+use Rattle.tables.proofs.Kit.{◌%◌, ◌≡◌, arith, pow_mono, get_or}
 use Rattle.tables.proofs.{Bits.shl_one, Marks.marks_bits}
-use Rattle.tables.specs.Bits.{bit}
-use Rattle.plan.specs.Leading.{Spread}
 use Rattle.plan.proofs.Bytes.{spread_none, spread_more}
 use Rattle.plan.proofs.spread.Goals as goal
 
@@ -25,21 +23,3 @@ loop-t-preserved c =
 
 pub returns : goal.returns
 returns c = let e : c.loop-t.t ≡ c.args.n = omega arith in rw e at c.loop-t.invariant.1
-
-pub overflow_mul-t : goal.overflow_mul-t
-overflow_mul-t c = omega arith
-
-pub overflow_shl-t : goal.overflow_shl-t
-overflow_shl-t c = omega arith
-
-pub offset_bounds-to-t : goal.offset_bounds-to-t
-offset_bounds-to-t c = omega arith
-
-pub bounds-to-t : goal.bounds-to-t
-bounds-to-t c = omega arith
-
-pub overflow_step-t : goal.overflow_step-t
-overflow_step-t c = omega arith
-
-pub loop-t-smaller : goal.loop-t-smaller
-loop-t-smaller c = omega arith

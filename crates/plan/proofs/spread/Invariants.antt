@@ -1,9 +1,7 @@
 -- `plan::spread` meets its contract. The loop's invariant: the table is that of the first t steps. Assumes nothing.
-use Rattle.tables.proofs.Kit.{◌-◌, ◌%◌, ◌≤◌, ◌≡◌, arith, pow_mono, get_or}
-use Rattle.tables.proofs.{Bits.shl_one, Marks.marks_bits}
+use Rattle.tables.proofs.Kit.{◌-◌, ◌≤◌, ◌≡◌, get_or}
 use Rattle.tables.specs.Bits.{bit}
 use Rattle.plan.specs.Leading.{Spread}
-use Rattle.plan.proofs.Bytes.{spread_none, spread_more}
 use Rattle.plan.proofs.spread.Given as goal
 
 abbrev pub invariant-loop-t : goal.invariant-loop-t
