@@ -20,5 +20,6 @@ pair_answers {U} {E} p d i = (
 )
 
 -- the join has exactly the answers found by starting E at each answer of U
-pub join_answers : (U E : Pattern) → Joinable U E → (d : Document) (i : ℕ) → Answer (shape_of (join_of U E)) d i ↔ Started (Answer (shape_of U) d) (shape_of E) d i
+pub join_answers : (U E : Pattern) → Joinable U E → (d : Document) (i : ℕ)
+    → Answer (shape_of (join_of U E)) d i ↔ Started (Answer (shape_of U) d) (shape_of E) d i
 join_answers U E w = pair_answers (pair_of U E w)

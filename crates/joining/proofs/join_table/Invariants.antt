@@ -1,9 +1,8 @@
 -- `joining::join_table` meets its contract: the steps before the one looked at are written, in three loops, one for each part of the join. Assumes nothing.
-use Rattle.tables.proofs.Kit.{ℕ, ◌+◌, ◌-◌, ◌≤◌, ◌<◌, ◌≡◌, refl, sym, ap, ◌∙◌, ⊎_elim, arith, get_or}
-use Rattle.tables.specs.{Column.step_no, Pattern.{Shape, shape_of, table_of, ValidPattern}, declared.Pattern.Pattern, declared.StepNo.StepNo}
-use Rattle.tables.proofs.{Trees.parent_lt, Rules.shape_ordered, Filling.{Filled, filled_none, filled_next, filled_all}}
-use Rattle.joining.specs.Join.{renumber, join_shape, join_of}
-use Rattle.joining.proofs.Parts.{renumber_low, renumber_high, part_front, part_middle, part_rest}
+use Rattle.tables.proofs.Kit.{◌+◌, ◌-◌, ◌≤◌, ◌<◌}
+use Rattle.tables.specs.{Pattern.{shape_of}}
+use Rattle.tables.proofs.{Filling.{Filled}}
+use Rattle.joining.specs.Join.{join_shape}
 use Rattle.joining.proofs.join_table.Given as goal
 
 abbrev pub invariant-loop-u : goal.invariant-loop-u
