@@ -1,7 +1,7 @@
 -- What the checks of a packet say, by name: a header, a pattern packet, a document packet, two pattern packets. Each list of checks passes exactly where its
 -- record holds. Assumes nothing.
 use Rattle.tables.proofs.Kit.{ℕ, ◌≤◌, ◌≡◌, sym, subst, List, ◌++◌, arith, length, get_or}
-use Rattle.tables.specs.{Checks.{document_right, pattern_right}, Document.ValidDocument, Pattern.{zero_pattern, ValidPattern}, Refusal.{Passes, Decided}}
+use Rattle.tables.specs.{Checks.{document_right}, Document.ValidDocument, Pattern.{zero_pattern, ValidPattern}, Refusal.{Passes, Decided}}
 use Rattle.tables.specs.{declared.Pattern.Pattern, declared.Refusal.Refusal, declared.Checked.Checked, declared.Checked.TheVariants.{Right, Refused}}
 use Rattle.tables.proofs.Outcomes.{refuses_front, refuses_rest, passes_both, passes_front, passes_rest}
 use Rattle.packets.specs.{Header.{Sized, head_checks}, PatternPacket.{packet_pattern, pattern_checks, ReadsPattern, ReadsTwo}}

@@ -1,6 +1,5 @@
 -- `packets::copy` meets its contract: the numbers before the one looked at stand in the list, which keeps its other entries. Assumes nothing.
-use Rattle.tables.proofs.Kit.{◌-◌, ◌≤◌, ◌≡◌, ◌++◌, arith, length, take, drop, length-set, rules}
-use Rattle.packets.proofs.Reading.{copy_next}
+use Rattle.tables.proofs.Kit.{◌-◌, ◌≤◌, ◌≡◌, ◌++◌, length, take, drop}
 use Rattle.packets.proofs.copy.Given as goal
 
 abbrev pub invariant-loop-k : goal.invariant-loop-k

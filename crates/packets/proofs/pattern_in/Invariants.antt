@@ -1,7 +1,6 @@
 -- `packets::pattern_in` meets its contract: the steps before the one looked at stand in the three arrays, with zeros after them. Assumes nothing.
-use Rattle.tables.proofs.Kit.{◌-◌, refl, arith}
-use Rattle.tables.specs.Pattern.{table_of}
-use Rattle.tables.proofs.Filling.{Filled, filled_none, filled_next, filled_all}
+use Rattle.tables.proofs.Kit.{◌-◌}
+use Rattle.tables.proofs.Filling.{Filled}
 use Rattle.packets.specs.PatternPacket.{packet_shape}
 use Rattle.packets.proofs.pattern_in.Given as goal
 

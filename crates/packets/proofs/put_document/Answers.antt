@@ -1,9 +1,9 @@
 -- `packets::put_document` meets its contract: the header and the nodes before the one looked at are written. Assumes nothing.
-use Rattle.tables.proofs.Kit.{◌+◌, ◌*◌, ◌-◌, ◌≤◌, ◌≡◌, refl, ◌∙◌, arith}
+use Rattle.tables.proofs.Kit.{◌+◌, ◌*◌, ◌≡◌, refl, ◌∙◌, arith}
 use Rattle.tables.specs.Document.{node_count, document_of}
 use Rattle.packets.specs.DocumentPacket.{node_bytes, document_packet, size_of}
 use Rattle.packets.proofs.DocumentTrip.{head, node_four}
-use Rattle.halves.proofs.Rows.{RowsPut, rows_none, rows_next, rows_all}
+use Rattle.halves.proofs.Rows.{rows_none, rows_next, rows_all}
 use Rattle.packets.proofs.put_document.Goals as goal
 
 pub loop-i-preserved : goal.loop-i-preserved

@@ -1,5 +1,5 @@
 -- `packets::put_head` meets its contract: a byte and then a number. Assumes nothing.
-use Rattle.tables.proofs.Kit.{refl, ◌∙◌, [], ◌∷◌, arith, length-set, sets-eq, rules}
+use Rattle.tables.proofs.Kit.{refl, ◌∙◌, [], ◌∷◌, arith, length-set, sets-eq}
 use Rattle.halves.specs.Bytes.{high, low}
 use Rattle.halves.proofs.Rows.{put_two}
 use Rattle.packets.proofs.put_head.Goals as goal

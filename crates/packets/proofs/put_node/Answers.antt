@@ -1,5 +1,5 @@
 -- `packets::put_node` meets its contract: a number and then another. Assumes nothing.
-use Rattle.tables.proofs.Kit.{◌+◌, ◌≡◌, refl, [], ◌∷◌, arith, rules}
+use Rattle.tables.proofs.Kit.{◌+◌, ◌≡◌, refl, [], ◌∷◌, arith}
 use Rattle.halves.specs.Bytes.{high, low}
 use Rattle.halves.proofs.Rows.{put_two}
 use Rattle.packets.proofs.put_node.Goals as goal

@@ -1,5 +1,5 @@
 -- `packets::put_pattern` meets its contract: the header and the steps before the one looked at are written. Assumes nothing.
-use Rattle.tables.proofs.Kit.{ℕ, ◌+◌, ◌*◌, ◌-◌, ◌≤◌, ◌≡◌, refl, ap, ◌∙◌, List, [], ◌∷◌, ◌++◌, arith, length, set, drop, length-set}
+use Rattle.tables.proofs.Kit.{ℕ, ◌+◌, ◌*◌, ◌≤◌, ◌≡◌, refl, ap, ◌∙◌, List, [], ◌∷◌, ◌++◌, arith, length, set, drop, length-set}
 use Rattle.tables.specs.Pattern.{Shape, shape_of}
 use Rattle.tables.proofs.Columns.{put_next}
 use Rattle.halves.specs.Bytes.{high, low}

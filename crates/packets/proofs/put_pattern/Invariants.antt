@@ -1,11 +1,8 @@
 -- `packets::put_pattern` meets its contract: the header and the steps before the one looked at are written. Assumes nothing.
-use Rattle.tables.proofs.Kit.{ℕ, ◌+◌, ◌*◌, ◌-◌, ◌≤◌, ◌≡◌, refl, ap, ◌∙◌, List, [], ◌∷◌, ◌++◌, arith, length, set, drop, length-set}
-use Rattle.tables.specs.Pattern.{Shape, shape_of}
-use Rattle.tables.proofs.Columns.{put_next}
-use Rattle.halves.specs.Bytes.{high, low}
-use Rattle.packets.specs.PatternPacket.{pattern_length, pattern_packet, step_bytes}
-use Rattle.packets.proofs.PatternTrip.{head, step_four}
-use Rattle.halves.proofs.Rows.{RowsPut, rows_none, rows_next, rows_all}
+use Rattle.tables.proofs.Kit.{◌+◌, ◌*◌, ◌-◌, ◌≤◌, length}
+use Rattle.tables.specs.Pattern.{shape_of}
+use Rattle.packets.specs.PatternPacket.{step_bytes}
+use Rattle.halves.proofs.Rows.{RowsPut}
 use Rattle.packets.proofs.put_pattern.Given as goal
 
 abbrev pub invariant-loop-k : goal.invariant-loop-k

@@ -1,5 +1,5 @@
 -- `packets::put_step` meets its contract: two bytes and then a number. Assumes nothing.
-use Rattle.tables.proofs.Kit.{suc, ◌+◌, ◌≡◌, refl, ◌∙◌, [], ◌∷◌, arith, length-set, sets-eq, rules}
+use Rattle.tables.proofs.Kit.{suc, ◌+◌, ◌≡◌, refl, ◌∙◌, [], ◌∷◌, arith, length-set, sets-eq}
 use Rattle.halves.specs.Bytes.{high, low}
 use Rattle.halves.proofs.Rows.{put_two}
 use Rattle.packets.proofs.put_step.Goals as goal

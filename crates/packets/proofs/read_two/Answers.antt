@@ -1,5 +1,4 @@
 -- `packets::read_two` meets its contract: the answer of the first packet comes before that of the second. Assumes nothing.
-use Rattle.tables.proofs.Kit.{rules}
 use Rattle.packets.proofs.Views.{first_refused, first_read}
 use Rattle.packets.proofs.read_two.Goals as goal
 

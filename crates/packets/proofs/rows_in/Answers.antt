@@ -1,6 +1,5 @@
 -- `packets::rows_in` meets its contract: each test decides its part of a check. Assumes nothing.
-use Rattle.tables.proofs.Kit.{ℕ, ◌+◌, ◌/◌, ◌%◌, refl, inl, inr, ⊎_elim, arith, length}
-use Rattle.tables.proofs.Kit.{ltb-true, ltb-false, eqb-true, eqb-false, not-true, not-false, rules}
+use Rattle.tables.proofs.Kit.{ℕ, ◌/◌, refl, inl, inr, ⊎_elim, arith}
 use Rattle.packets.specs.Header.{Sized}
 use Rattle.packets.proofs.rows_in.Goals as goal
 
