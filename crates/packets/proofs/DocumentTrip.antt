@@ -1,7 +1,8 @@
 -- Document packets there and back: what is written reads as the same document, what is read writes as the same bytes, and no second
 -- result of reading or of writing fits. Assumes nothing.
 use Rattle.tables.proofs.Kit.{ℕ, ◌+◌, ◌*◌, ◌<◌, ◌≤◌, ◌≡◌, refl, sym, ap, ap₂, ◌∙◌, subst, List, [], ◌∷◌, arith, length, get_or}
-use Rattle.tables.specs.{Column.{blocks, column}, Document.{Document, node_count, ValidDocument, document_of}, Refusal.{Check, Passes}, declared.Counted.Counted}
+use Rattle.tables.specs.{Column.{blocks, column}, Document.{Document, node_count, ValidDocument, document_of}}
+use Rattle.tables.specs.{Refusal.{Check, Passes}, declared.Counted.Counted}
 use Rattle.tables.proofs.{Columns.{blocks_ext, column_length, column_at, column_ext, column_self}, Refusals.counted_unique, Outcomes.counted_both}
 use Rattle.halves.specs.Bytes.{Bytes, high, low, half}
 use Rattle.packets.specs.DocumentPacket.{node_bytes, document_packet, nodes_in, packet_document, document_checks, node_checks}
@@ -57,7 +58,8 @@ document_packet_sized {d} v = record {
 }
 
 -- the packet of a valid document passes every check, where both lists have room
-pub document_packet_passes : {d : Document} → ValidDocument d → (a b : ℕ) → node_count d ≤ a → node_count d ≤ b → Passes (document_checks (document_packet d) a b)
+pub document_packet_passes : {d : Document} → ValidDocument d → (a b : ℕ) → node_count d ≤ a → node_count d ≤ b
+    → Passes (document_checks (document_packet d) a b)
 unfolding document_packet
 document_packet_passes {d} v a b f g =
     let n : nodes_in (document_packet d) ≡ node_count d = nodes_in_packet d in

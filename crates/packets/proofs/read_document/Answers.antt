@@ -1,5 +1,5 @@
 -- `packets::read_document` meets its contract: the nodes are read into lists of its own, checked there, and copied where there is room. Assumes nothing.
-use Rattle.tables.proofs.Kit.{ℕ, ◌≤◌, ◌≡◌, refl, ap, ◌∙◌, subst, inl, ⊎_elim, List, ◌++◌, arith}
+use Rattle.tables.proofs.Kit.{ℕ, ◌≤◌, ◌≡◌, refl, ap, ◌∙◌, subst, inl, List, ◌++◌, arith}
 use Rattle.tables.proofs.Kit.{length, take, drop, replicate, length-take, length-replicate}
 use Rattle.tables.specs.{Checks.{document_right, ChecksDocument}, Document.{ValidDocument, document_of}}
 use Rattle.tables.specs.{declared.Counted.TheVariants.{Count, Refused}, declared.Refusal.TheVariants.Room}
@@ -62,7 +62,7 @@ returns-then-parents-n c =
     let e = o.nodes.1.0 in (
       refuses_rest (document_rules bs) (lists_check bs (length a.parents.now) (length a.labels.now)) Room
           (read_document_passes record { head = header o; right = valid o c.check_document.ensures c.in_default.is }) (inl (
-            (λ w. ⊎_elim (λ t. omega (arith, e, w.0)) (λ t. omega (arith, e, w.1)) c.then-parents-n.branch-raw),
+            (λ w. omega (arith, e)),
             refl,
           )),
       (refl, refl),

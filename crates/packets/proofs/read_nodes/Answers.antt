@@ -1,5 +1,5 @@
 -- `packets::read_nodes` meets its contract: the header's checks, the room, and then the two lists. Assumes nothing.
-use Rattle.tables.proofs.Kit.{◌+◌, ◌*◌, ◌≡◌, refl, ap, ◌∙◌, inl, ⊎_elim, ◌++◌, arith, length, drop}
+use Rattle.tables.proofs.Kit.{◌+◌, ◌*◌, ◌≡◌, refl, ap, ◌∙◌, inl, ◌++◌, arith, length, drop}
 use Rattle.tables.specs.{Column.column, declared.Counted.TheVariants.{Count, Refused}, declared.Refusal.TheVariants.Room}
 use Rattle.tables.proofs.Outcomes.{refuses_front, refuses_rest, passes_both}
 use Rattle.halves.specs.Bytes.{half}
@@ -20,7 +20,7 @@ returns-then-parents-n c =
     let a = c.args in
     let h : Headed a.s.now 0 2048 (Count c.in-Count.n) = c.in-Count.ensures in let e = h.1 in (
       refuses_rest (head_checks a.s.now 0 2048) (lists_check a.s.now (length a.parents.now) (length a.labels.now)) Room h.0 (inl (
-        (λ w. ⊎_elim (λ t. omega (arith, e, w.0)) (λ t. omega (arith, e, w.1)) c.then-parents-n.branch-raw),
+        (λ w. omega (arith, e)),
         refl,
       )),
       (refl, refl),

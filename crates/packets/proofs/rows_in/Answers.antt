@@ -1,5 +1,5 @@
 -- `packets::rows_in` meets its contract: each test decides its part of a check. Assumes nothing.
-use Rattle.tables.proofs.Kit.{ℕ, ◌/◌, refl, inl, inr, ⊎_elim, arith}
+use Rattle.tables.proofs.Kit.{ℕ, ◌/◌, refl, inl, inr, arith}
 use Rattle.packets.specs.Header.{Sized}
 use Rattle.packets.proofs.rows_in.Goals as goal
 
@@ -13,9 +13,7 @@ pub returns-then-n-eq0 : goal.returns-then-n-eq0
 returns-then-n-eq0 c =
     let a = c.args in let f = c.get_half-field.result in
     let unsized : ((n : ℕ) × Sized a.s.now a.extra a.most n) → ⊥ =
-    λ z. ⊎_elim (λ t. omega (arith, z.1.some, z.1.field)) (⊎_elim (λ t. omega (arith, z.1.field, z.1.few, t.if-most-n.true))
-    (⊎_elim (λ t. omega (arith, z.1.field, t.if-field-extra.true))
-    (λ t. omega (arith, z.1.field, z.1.present, t.if-s-field.true)))) c.then-n-eq0.branch-raw in
+    λ z. grind (arith, z.1.some, z.1.field, z.1.few, z.1.present) in
     (inr (omega arith, inr (omega arith, inl (unsized, refl))), tt)
 
 pub returns : goal.returns
