@@ -54,6 +54,6 @@ marked_more xs before k work m l = record {
 pub marked_all : (xs before work : List ℕ) → MarkedTo xs before (length xs) work → (i : ℕ) → In xs i → Marked work i
 marked_all xs before work m i w = ap (λ x. get_or work (2 * x + 1) 0) (sym w.is) ∙ m.put w.place w.early
 
-pub marked_others : (xs before work : List ℕ) → MarkedTo xs before (length xs) work → (q : ℕ) → ((i : ℕ) → In xs i → q ≡ 2 * i + 1 → ⊥) → get_or work q 0 ≡ get_or
-    before q 0
+pub marked_others : (xs before work : List ℕ) → MarkedTo xs before (length xs) work
+    → (q : ℕ) → ((i : ℕ) → In xs i → q ≡ 2 * i + 1 → ⊥) → get_or work q 0 ≡ get_or before q 0
 marked_others xs before work m q n = m.others q (λ j l e. n (get_or xs j 0) (record { place = j; early = l; is = refl }) e)
