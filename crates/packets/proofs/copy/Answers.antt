@@ -1,10 +1,7 @@
 -- `packets::copy` meets its contract: the numbers before the one looked at stand in the list, which keeps its other entries. Assumes nothing.
-use Rattle.tables.proofs.Kit.{◌≡◌, arith, length-set, rules}
+use Rattle.tables.proofs.Kit.{◌≡◌, arith, length-set}
 use Rattle.packets.proofs.Reading.{copy_next}
 use Rattle.packets.proofs.copy.Goals as goal
-
-pub loop-k-init : goal.loop-k-init
-loop-k-init c = search rules
 
 pub loop-k-preserved : goal.loop-k-preserved
 loop-k-preserved c =

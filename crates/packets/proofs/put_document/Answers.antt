@@ -9,8 +9,7 @@ use Rattle.packets.proofs.put_document.Goals as goal
 pub loop-i-preserved : goal.loop-i-preserved
 unfolding node_bytes
 loop-i-preserved c =
-    let x = c.before.before.before.before.before.before.before in let l = x.loop-i in
-    let a = x.args in
+    let l = c.loop-i in let a = c.args in
     let d = document_of a.parents.now a.labels.now in (
       omega arith,
       rows_next (node_bytes d) 3 4 _ l.i l.out _ (omega arith) (node_four d) c.put_node.auto.out c.put_node.ensures
@@ -26,44 +25,8 @@ returns c =
     let e : 3 + 4 * l.i ≡ size_of d = omega arith in let f : l.i ≡ node_count d = omega arith in
     rw (e, f) at (rows_all (node_bytes d) 3 4 _ (head d) a.out.now l.out l.i refl c.put_head.ensures l.invariant.1)
 
-pub overflow_mul-n : goal.overflow_mul-n
-overflow_mul-n c = omega arith
-
-pub overflow_cast-n : goal.overflow_cast-n
-overflow_cast-n c = omega arith
-
-pub put_head-requires : goal.put_head-requires
-put_head-requires c = omega arith
-
 pub loop-i-init : goal.loop-i-init
 loop-i-init c = (omega arith, rows_none _ 3 4 _)
-
-pub overflow_mul-i : goal.overflow_mul-i
-overflow_mul-i c = omega arith
-
-pub overflow_add-i : goal.overflow_add-i
-overflow_add-i c = omega arith
-
-pub offset_bounds-parents-i : goal.offset_bounds-parents-i
-offset_bounds-parents-i c = omega arith
-
-pub bounds-parents-i : goal.bounds-parents-i
-bounds-parents-i c = omega arith
-
-pub offset_bounds-labels-i : goal.offset_bounds-labels-i
-offset_bounds-labels-i c = omega arith
-
-pub bounds-labels-i : goal.bounds-labels-i
-bounds-labels-i c = omega arith
-
-pub put_node-requires : goal.put_node-requires
-put_node-requires c = omega arith
-
-pub overflow_step-i : goal.overflow_step-i
-overflow_step-i c = omega arith
-
-pub loop-i-smaller : goal.loop-i-smaller
-loop-i-smaller c = omega arith
 
 pub shape_of-out : goal.shape_of-out
 shape_of-out c = c.loop-i.invariant.1.same ∙ c.put_head.auto.out
