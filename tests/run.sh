@@ -1,5 +1,5 @@
 #!/usr/bin/env bash
-# run.sh: compiles and runs all C tests against target/staticlib/libstation.a and target/bin/ask, one line for each part. Status 0 if every part passed.
+# run.sh: compiles and runs all C tests against crates/station/out/libstation.a and crates/ask/out/ask, one line for each part. Status 0 if every part passed.
 #
 #     tests/run.sh
 #
@@ -14,8 +14,8 @@ set -uo pipefail
 tests=$(cd "$(dirname "$0")" && pwd)
 root=$(dirname "$tests")
 cd "$root" || exit 1
-archive=${NISHKAVEL_ARCHIVE:-target/staticlib/libstation.a}
-ask=${NISHKAVEL_ASK:-target/bin/ask}
+archive=${NISHKAVEL_ARCHIVE:-crates/station/out/libstation.a}
+ask=${NISHKAVEL_ASK:-crates/ask/out/ask}
 out=target/tests
 machine=${NISHKAVEL_MACHINE:-$(uname -m)}
 seed=${NISHKAVEL_SEED:-7}
@@ -41,13 +41,15 @@ read -ra xml_cflags <<< "$(pkg-config --cflags libxml-2.0)"
 read -ra xml_libs <<< "$(pkg-config --libs libxml-2.0)"
 
 # The archive and ask are built where they are missing or older than what they are made from.
-stale() { [ ! -f "$1" ] || { [ -d crates ] && [ -n "$(find crates -type f -newer "$1" -print -quit)" ]; }; }
+stale() { [ ! -f "$1" ] || { [ -d crates ] && [ -n "$(find crates -name out -prune -o -type f -newer "$1" -print -quit)" ]; }; }
 build() {
   command -v rt > /dev/null || { echo "run: $1 has to be built, and the Rattle kit is not on this machine (no command rt)"; exit 2; }
-  "${@:2}" > "$out/build.log" || { cat "$out/build.log"; exit 1; }
+  rm -f "$1"
+  (cd "$2" && rt "$3") > "$out/build.log" 2>&1 < /dev/null || { cat "$out/build.log"; exit 1; }
+  [ -f "$1" ] || { cat "$out/build.log"; echo "run: $1 was not built"; exit 1; }
 }
-[ -n "${NISHKAVEL_ARCHIVE:-}" ] || ! stale "$archive" || build "$archive" rt staticlib station
-[ -n "${NISHKAVEL_ASK:-}" ] || ! stale "$ask" || build "$ask" rt check ask
+[ -n "${NISHKAVEL_ARCHIVE:-}" ] || ! stale "$archive" || build "$archive" crates/station lib
+[ -n "${NISHKAVEL_ASK:-}" ] || ! stale "$ask" || build "$ask" crates/ask run
 
 # ---- parts ----
 
@@ -117,7 +119,7 @@ samples() {
 # Lines of at most 160 columns; the layout of the C by clang-format, of version 14 since versions differ, and the scripts by shellcheck, each where it is here.
 style() {
   local c=(include/*.h samples/*.c tests/*.[ch] bench/*.[ch]) scripts looked=()
-  if LC_ALL=C.UTF-8 grep -rnIE '^.{161,}' crates include samples tests bench tools .ci --exclude='*.edit'; then
+  if LC_ALL=C.UTF-8 grep -rnIE '^.{161,}' crates include samples tests bench tools .ci --exclude='*.edit' --exclude-dir=out; then
     echo 'these lines are over 160 columns'
     return 1
   fi

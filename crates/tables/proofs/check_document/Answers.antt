@@ -7,8 +7,8 @@ use Rattle.tables.proofs.check_document.Goals as goal
 
 pub returns-then-n-eq0 : goal.returns-then-n-eq0
 returns-then-n-eq0 c =
-    refused BadDocument (λ v. ⊎_elim (λ t. omega (arith, v.some)) (⊎_elim (λ t. omega (arith, v.few, t.if-n-gt-NODES.true))
-    (λ t. absurd (t.if-labels-n.true v.equal))) c.then-n-eq0.branch-raw)
+    refused BadDocument (λ v. ⊎_elim (λ t. omega (arith, v.some)) (⊎_elim (λ t. omega (arith, v.few))
+    (λ t. omega (arith, v.equal))) c.then-n-eq0.branch-raw)
 
 pub loop-i-init : goal.loop-i-init
 loop-i-init c =

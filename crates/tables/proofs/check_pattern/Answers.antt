@@ -7,8 +7,8 @@ use Rattle.tables.proofs.check_pattern.Goals as goal
 
 pub returns-then-n-eq0 : goal.returns-then-n-eq0
 returns-then-n-eq0 c =
-    refused BadPattern (λ v. ⊎_elim (λ t. omega (arith, v.some)) (⊎_elim (λ t. omega (arith, v.few, t.if-n-gt-STEPS.true))
-    (λ t. omega (arith, v.output, t.if-n-p.true))) c.then-n-eq0.branch-raw)
+    refused BadPattern (λ v. ⊎_elim (λ t. omega (arith, v.some)) (⊎_elim (λ t. omega (arith, v.few))
+    (λ t. omega (arith, v.output))) c.then-n-eq0.branch-raw)
 
 pub returns-then-steps_right : goal.returns-then-steps_right
 returns-then-steps_right c =
