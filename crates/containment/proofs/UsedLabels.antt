@@ -1,5 +1,6 @@
 -- The table of the small labels that stand at the steps of a pattern. Assumes nothing.
-use Rattle.tables.proofs.Kit.{ℕ, ◌<◌, ◌≡◌, sym, subst, ◌⊎◌, inr, Bool, true, false, List, ℕ_discrete, T, get_or, set, replicate, get_or-replicate, get_or-set_other}
+use Rattle.tables.proofs.Kit.{ℕ, ◌<◌, ◌≡◌, sym, subst, ◌⊎◌, inr, Bool, true, false, List, ℕ_discrete, T}
+use Rattle.tables.proofs.Kit.{get_or, set, replicate, get_or-replicate, get_or-set_other}
 use Rattle.tables.specs.Pattern.{Shape}
 use Rattle.containment.specs.Witness.{Stands}
 
