@@ -111,6 +111,7 @@ module _ (A : Shape) (d : Document) (First : ℕ → Type 0) (va : ValidShape A)
     placed = λ k m. below_or_at m (λ h. rw (r (2 * k + 1) (λ z. omega arith)) (u.placed k h))
         (λ z. subst (λ (y : ℕ). Marks (get_or after (2 * y + 1) 0) (PlacedAt A d First y)) (sym z) (rw a mw));
     starts = λ k m n. rw (r (2 * k + 1) (λ z. omega arith)) (u.starts k (omega arith) n);
-    allows = λ k m. below_or_at m (λ h. rw (s k h) (u.allows k h)) (λ z. subst (λ (y : ℕ). Marks (get_or allowed' y 0) (Allowed A d First y)) (sym z) (rw b mx));
+    allows = λ k m. below_or_at m (λ h. rw (s k h) (u.allows k h))
+        (λ z. subst (λ (y : ℕ). Marks (get_or allowed' y 0) (Allowed A d First y)) (sym z) (rw b mx));
     rest = λ q m. r q (λ z. omega arith) ∙ u.rest q m;
   }

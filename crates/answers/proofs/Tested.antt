@@ -26,7 +26,8 @@ tells_in xs i = tells_iff (tells_some (λ k. tells_eq (get_or xs k 0) i) (length
 -- is a list a start list of the document?
 unfoldable pub is_start_list : Document → List ℕ → Bool
 is_start_list d xs =
-    every (length xs) (λ k. imp (ltb (suc k) (length xs)) (ltb (get_or xs k 0) (get_or xs (suc k) 0))) && every (length xs) (λ k. ltb (get_or xs k 0) (node_count d))
+    every (length xs) (λ k. imp (ltb (suc k) (length xs)) (ltb (get_or xs k 0) (get_or xs (suc k) 0)))
+    && every (length xs) (λ k. ltb (get_or xs k 0) (node_count d))
 
 pub tells_start_list : (d : Document) (xs : List ℕ) → Tells (is_start_list d xs) (StartList d xs)
 unfolding is_start_list
@@ -75,7 +76,8 @@ module _ (A : Shape) (d : Document) (first : ℕ → Bool) (First : ℕ → Type
     fits = λ i l. subst (λ (x : ℕ). Marks x (FitsAt A d i)) (sym (ap (λ k. get_or (tested_working A d first) k 0) (omega arith) ∙ at i 0 l (omega arith)))
         (marks_mask A.tree.size (λ s. can_send A.tree (probe A (nodes_of d) first) s i) (λ s. ReachesFrom A (nodes_of d) s i)
         (λ s m. tells_reaches_from A (nodes_of d) first First (shape_ordered va) (document_ordered vd) tells_first s i m));
-    placed = λ i l. subst (λ (x : ℕ). Marks x (PlacedAt A d First i)) (sym (ap (λ k. get_or (tested_working A d first) k 0) (omega arith) ∙ at i 1 l (omega arith)))
+    placed = λ i l. subst (λ (x : ℕ). Marks x (PlacedAt A d First i))
+        (sym (ap (λ k. get_or (tested_working A d first) k 0) (omega arith) ∙ at i 1 l (omega arith)))
         (marks_mask A.tree.size (λ s. can_whole A.tree (probe A (nodes_of d) first) s i) (λ s. Reaches A (nodes_of d) First s i)
         (λ s m. tells_reaches A (nodes_of d) first First (shape_ordered va) (document_ordered vd) tells_first s i m));
     rest = λ k l. refl;

@@ -1,5 +1,6 @@
 -- No second count, answer list or working list fits the Answers call. Assumes nothing.
-use Rattle.tables.proofs.Kit.{ℕ, ◌+◌, ◌*◌, ◌/◌, ◌%◌, ◌<◌, ◌≡◌, sym, ap, ap₂, ◌∙◌, subst, List, ◌++◌, arith, dec_lt, ℕ_discrete, length, get_or, drop, ext_get_or}
+use Rattle.tables.proofs.Kit.{ℕ, ◌+◌, ◌*◌, ◌/◌, ◌%◌, ◌<◌, ◌≡◌, sym, ap, ap₂, ◌∙◌, subst, List, ◌++◌}
+use Rattle.tables.proofs.Kit.{arith, dec_lt, ℕ_discrete, length, get_or, drop, ext_get_or}
 use Rattle.tables.specs.{Document.{Document, node_count}, Pattern.{Shape, shape_of}}
 use Rattle.tables.specs.{Refusal.{Check, CountedBy}, declared.Pattern.Pattern, declared.Counted.Counted}
 use Rattle.tables.proofs.{Marks.marks_unique, Outcomes.counted_both, Refusals.counted_unique}
