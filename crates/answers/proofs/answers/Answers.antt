@@ -1,7 +1,6 @@
 -- The checks in their order, then both passes. Assumes nothing.
 use Rattle.tables.proofs.Kit.{refl, inl, inr, ⊎_elim, arith}
 use Rattle.answers.proofs.answers.Goals as goal
-use Rattle.answers.proofs.answers.Goals.{then-list-nodes-via-then-list-nodes, then-list-nodes-via-else-list-nodes+then-work-nodes}
 
 pub returns-in-Refused : goal.returns-in-Refused
 returns-in-Refused c = (⊎_elim inl (λ w. absurd w.1) c.in-Refused.ensures.0, (refl, refl))
@@ -18,10 +17,7 @@ returns-then-list-nodes c = (
     inr (
       c.in_default-check_document.ensures.0.0,
       inl (
-        λ w. elim c.then-list-nodes.branch [
-          | then-list-nodes-via-then-list-nodes q ↦ omega (arith, w.0)
-          | then-list-nodes-via-else-list-nodes+then-work-nodes q ↦ omega (arith, w.1)
-        ],
+        λ w. ⊎_elim (λ t. omega (arith, w.0)) (λ t. omega (arith, w.1)) c.then-list-nodes.branch-raw,
         refl,
       ),
     ),
