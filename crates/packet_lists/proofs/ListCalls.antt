@@ -1,12 +1,12 @@
 -- The calls on lists, from the contracts of the calls that they make. Assumes nothing.
-use Rattle.tables.proofs.Kit.{ℕ, zero, suc, ◌≤◌, ◌<◌, ◌≡◌, refl, subst, List, length, get_or}
-use Rattle.tables.specs.{Document.{Document, node_count}, Pattern.{Shape, shape_of}, declared.Refusal.Refusal, declared.Counted.Counted}
+use Rattle.tables.proofs.Kit.{ℕ, ◌≡◌, subst, List, length}
+use Rattle.tables.specs.{Document.{Document}, Pattern.{Shape, shape_of}, declared.Refusal.Refusal, declared.Counted.Counted}
 use Rattle.tables.specs.declared.Checked.TheVariants as checked
 use Rattle.tables.specs.declared.Counted.TheVariants as counted
-use Rattle.tables.proofs.Outcomes.{refuses_front, passes_front, passes_rest, counted_rest}
+use Rattle.tables.proofs.Outcomes.{refuses_front, counted_rest}
 use Rattle.packets.specs.{PatternPacket.{packet_pattern, pattern_checks, ReadsPattern}, declared.PatternRead.PatternRead}
-use Rattle.packets.proofs.Views.{read_document_of, nodes_few, pattern_told}
-use Rattle.placing.specs.Answer.{Begins, Started, In, Ascending, Lists}
+use Rattle.packets.proofs.Views.{pattern_told}
+use Rattle.placing.specs.Answer.{Begins, In}
 use Rattle.answers.specs.Answers.{Found, answer_checks, started_checks, FindsAnswers, FindsStarted}
 use Rattle.packet_lists.specs.Lists.{ListAnswers, ListStarted}
 
