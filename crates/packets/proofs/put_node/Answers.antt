@@ -6,7 +6,7 @@ use Rattle.packets.proofs.put_node.Goals as goal
 
 pub returns : goal.returns
 returns c =
-    let p = c.before.before.before.before.before.before in let a = p.args in
+    let a = c.args in
     let e : a.at + 2 + 2 ≡ a.at + 4 = omega arith in
     rw e at (put_two a.out.now _ _ (high a.parent.0 ∷ low a.parent.0 ∷ []) (high a.label ∷ low a.label ∷ []) a.at 2 2 (omega arith) refl
-    p.put_half.ensures c.put_half-2.ensures)
+    c.put_half.ensures c.put_half-2.ensures)
