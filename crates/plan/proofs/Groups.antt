@@ -88,7 +88,8 @@ module _ (forks later : List ℕ) (m : ℕ) where
   -- entry k has one
   pub reached_more : (x k : ℕ) → (bit_and m (get_or later k 0) ≡ 0 → ⊥) → Marks x (Reached forks later m k) → Marks (bit_or x (get_or forks k 0))
       (Reached forks later m (k + 1))
-  reached_more x k n w = marks_to (bit_or x (get_or forks k 0)) (λ s. Reached forks later m k s ⊎ (bit (get_or forks k 0) s ≡ 1)) (Reached forks later m (k + 1))
+  reached_more x k n w = marks_to (bit_or x (get_or forks k 0)) (λ s. Reached forks later m k s ⊎ (bit (get_or forks k 0) s ≡ 1))
+      (Reached forks later m (k + 1))
       (λ s o. ⊎_elim (λ q. (q.0, omega (arith, q.1), q.2, q.3)) (λ b. (k, omega arith, n, b)) o)
       (λ s q. elim (ℕ_discrete q.0 k) [
         | yes h ↦ inr (subst (λ (y : ℕ). bit (get_or forks y 0) s ≡ 1) h q.3)

@@ -1,6 +1,6 @@
 -- The main path has a step for each depth down to the output's, and every step from which the output can be reached is one of them. Assumes nothing.
-use Rattle.tables.proofs.Kit.{ℕ, zero, suc, ◌+◌, ◌-◌, ◌≤◌, ◌<◌, ◌≡◌, refl, sym, ap, ◌∙◌, subst, inl, inr}
-use Rattle.tables.proofs.Kit.{List, [], ◌∷◌, ◌++◌, arith, length, get_or, length-append, get_or-append, get_or-append-add}
+use Rattle.tables.proofs.Kit.{ℕ, zero, suc, ◌-◌, ◌≤◌, ◌<◌, ◌≡◌, refl, sym, ap, ◌∙◌, subst, inl, inr}
+use Rattle.tables.proofs.Kit.{[], ◌∷◌, ◌++◌, arith, length, get_or, length-append, get_or-append, get_or-append-add}
 use Rattle.tables.specs.{Tree.{Tree, Child, From}, Pattern.{Shape, ValidShape}}
 use Rattle.tables.proofs.{Choice.below_or_at, Trees.{Ordered, parent_lt, from_child}}
 use Rattle.tables.proofs.{Depth.{depth, depth_zero, depth_child, depth_le, depth_unique}, Rules.shape_ordered}
@@ -18,7 +18,8 @@ module _ {T : Tree} (v : Ordered T) where
       length-append (path_to T k q) (suc s ∷ []) ∙ omega (arith, path_length_to k q (omega arith) (omega arith), depth_child v q (suc s) c)
 
   -- entry n of the path is above its end, and stands at depth n
-  path_at_to : (k s : ℕ) → s < k → s < T.size → (n : ℕ) → n < suc (depth T s) → From T (get_or (path_to T k s) n 0) s × (depth T (get_or (path_to T k s) n 0) ≡ n)
+  path_at_to : (k s : ℕ) → s < k → s < T.size → (n : ℕ) → n < suc (depth T s) → From T (get_or (path_to T k s) n 0) s
+      × (depth T (get_or (path_to T k s) n 0) ≡ n)
   unfolding path_to
   path_at_to zero s l h n m = absurd (omega arith)
   path_at_to (suc k) zero l h n m =

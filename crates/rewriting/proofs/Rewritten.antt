@@ -6,7 +6,7 @@ use Rattle.tables.proofs.{Depth.depth, Rules.{pattern_of_shape, pattern_of_agree
 use Rattle.containment.specs.Mapping.{Maps, Contained}
 use Rattle.containment.proofs.{Contained.contained_iff, Maps.maps_sound}
 use Rattle.joining.specs.Join.{added, join_of, Joinable}
-use Rattle.joining.proofs.{Joined.{Joined, Pair, pair_of, pair_joinable, pair_joined}, Order.pair_valid}
+use Rattle.joining.proofs.{Joined.{Pair, pair_of, pair_joinable, pair_joined}, Order.pair_valid}
 use Rattle.rewriting.specs.{Candidate.{main_path, cut_step, Cut, Candidate}, Rewriting.Serves}
 use Rattle.rewriting.proofs.{Cuts.{cut_shape, cut_shape_lem, cut_valid, cut_unique, cut_agree, cut_some, cut_small}, MainPath.{cut_on_path, cut_step_is}}
 use Rattle.rewriting.proofs.Serving.{EqualJoin, CutAt, reaches, same_label, join_to_query, query_to_join, narrowest}
