@@ -6,7 +6,7 @@
 #
 # SAMPLES=N sets the samples of each time (101).
 #
-# Both sides run on the processor at hand. On x86-64 the archive is that of `rt staticlib station`, and hand.c is compiled for the same plain x86-64. On Arm,
+# Both sides run on the processor at hand. On x86-64 the archive is that of `rt lib` in crates/station, and hand.c is compiled for the same plain x86-64. On Arm,
 # where that archive does not link, the kit's clang compiles the same LLVM module once more for Arm.
 set -euo pipefail
 cd "$(dirname "$0")/.."
@@ -40,7 +40,7 @@ done
 exec '$clang' "\$@"
 END
   chmod +x "$scratch/kit/$tools/clang"
-  RATTLE_HOME=$scratch/kit rt staticlib station >&2
+  (cd crates/station && RATTLE_HOME=$scratch/kit rt lib >&2)
   if [ ! -s "$scratch/module" ]; then
     echo 'bench: the module of the archive was not seen' >&2
     exit 1
@@ -52,8 +52,8 @@ END
 }
 
 if [ "$machine" = x86_64 ]; then
-  rt staticlib station >&2
-  cp target/staticlib/libstation.a "$build/libstation.a"
+  (cd crates/station && rt lib >&2)
+  cp crates/station/out/libstation.a "$build/libstation.a"
 else
   other_archive
 fi
