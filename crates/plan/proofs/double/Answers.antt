@@ -7,7 +7,7 @@ pub loop-u-init : goal.loop-u-init
 loop-u-init c = (omega arith, doubling_none _ _ _ _)
 
 pub loop-u-preserved : goal.loop-u-preserved
-loop-u-preserved c = let m = c.before.before in (omega arith, doubling_more _ _ _ _ m.loop-u.u m.loop-u.table (omega arith) (omega arith) m.loop-u.invariant.1)
+loop-u-preserved c = (omega arith, doubling_more _ _ _ _ c.loop-u.u c.loop-u.table (omega arith) (omega arith) c.loop-u.invariant.1)
 
 pub returns : goal.returns
 returns c = doubling_all _ _ _ _ _ _ (omega arith) c.loop-u.invariant.1

@@ -9,7 +9,7 @@ loop-c-init c = (omega arith, refl)
 
 pub loop-c-preserved : goal.loop-c-preserved
 unfolding looked_up
-loop-c-preserved c = let m = c.before.before in (omega arith, rw (add-one m.loop-c.c, m.loop-c.invariant.1))
+loop-c-preserved c = (omega arith, rw (add-one c.loop-c.c, c.loop-c.invariant.1))
 
 pub returns : goal.returns
 returns c = let e : c.loop-c.c ≡ 8 = omega arith in rw e at c.loop-c.invariant.1

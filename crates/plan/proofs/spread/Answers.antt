@@ -9,15 +9,15 @@ loop-t-init c = (omega arith, rw c.requires.1 (spread_none _))
 
 pub double-requires : goal.double-requires
 double-requires c =
-    let m = c.before.before.before in let p = pow_mono {i = m.loop-t.t % 8} {j = 7} (omega arith) in
-    (m.loop-t.invariant.1.size, rw (shl_one (m.loop-t.t % 8) (omega arith)) (omega arith))
+    let t = c.loop-t.t in
+    let p = pow_mono {i = t % 8} {j = 7} (omega arith) in
+    (c.loop-t.invariant.1.size, rw (shl_one (t % 8) (omega arith)) (omega arith))
 
 pub loop-t-preserved : goal.loop-t-preserved
 loop-t-preserved c =
-    let m = c.before.before.before.before in
-    let t = m.loop-t.t in (
+    let t = c.loop-t.t in (
       omega arith,
-      spread_more _ t (get_or m.args.to.now t 0) m.loop-t.table c.double.new.table (omega arith) m.loop-t.invariant.1 (marks_bits _)
+      spread_more _ t (get_or c.args.to.now t 0) c.loop-t.table c.double.new.table (omega arith) c.loop-t.invariant.1 (marks_bits _)
           (rw (shl_one (t % 8) (omega arith)) at c.double.ensures),
     )
 
