@@ -1,10 +1,10 @@
 -- The calls on packets of documents, from the contracts of the calls that they make. Assumes nothing.
-use Rattle.tables.proofs.Kit.{ℕ, ◌*◌, ◌/◌, ◌%◌, ◌≤◌, ◌<◌, ◌≡◌, ap, ◌∙◌, subst, ⊎_elim, List, [], ◌∷◌, ◌++◌}
+use Rattle.tables.proofs.Kit.{ℕ, ◌*◌, ◌/◌, ◌%◌, ◌≤◌, ◌≡◌, ap, ◌∙◌, subst, ⊎_elim, List, [], ◌∷◌, ◌++◌}
 use Rattle.tables.proofs.Kit.{arith, length, get_or, take, drop, replicate, length-replicate, get_or-append}
-use Rattle.tables.specs.{Document.document_of, Column.blocks, Pattern.shape_of, Refusal.{Check, Passes}}
+use Rattle.tables.specs.{Document.document_of, Column.blocks, Pattern.shape_of}
 use Rattle.tables.specs.{declared.Refusal.Refusal, declared.Pattern.Pattern, declared.Counted.Counted}
 use Rattle.tables.specs.declared.Counted.TheVariants as counted
-use Rattle.tables.proofs.{Columns.blocks_ext, Outcomes.{refuses_front, passes_front, passes_rest}}
+use Rattle.tables.proofs.{Columns.blocks_ext, Outcomes.{refuses_front}}
 use Rattle.halves.specs.Bytes.{half_bytes}
 use Rattle.packets.specs.{PatternPacket.{packet_pattern, pattern_checks}, DocumentPacket.{packet_document, document_rules}, inner.Putting.Puts}
 use Rattle.placing.specs.Answer.{Begins}
@@ -39,8 +39,8 @@ module _ {ds ps parents₀ labels₀ parents labels : List ℕ} {n : ℕ} {p : P
         written = e ∙ ap (λ xs. xs ++ drop (2 * c) room₀) (same ∙ ap (blocks (half_bytes f.answers)) f.count);
       }
 
-  pub found_small : (First : ℕ → Type 0) (list₀ work₀ list work : List ℕ) (c : ℕ) → Found (shape_of (packet_pattern ps)) (packet_document ds) First list₀ work₀ c
-      list work → c ≤ n
+  pub found_small : (First : ℕ → Type 0) (list₀ work₀ list work : List ℕ) (c : ℕ)
+      → Found (shape_of (packet_pattern ps)) (packet_document ds) First list₀ work₀ c list work → c ≤ n
   found_small First list₀ work₀ list work c f =
       omega (
         arith,

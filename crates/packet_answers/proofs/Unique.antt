@@ -18,8 +18,8 @@ pub answers_packets_unique : (ds ps room₀ : List ℕ) (r q : Counted) (room ro
     room' → (r ≡ q) × (room ≡ room')
 answers_packets_unique ds ps room₀ r q room room' h k =
     let A = shape_of (packet_pattern ps) in
-    one_room (packet_checks ds ps (length room₀)) (AnswersPut (Begins A) A (packet_document ds)) (answers_unique (Begins A) A (packet_document ds)) room₀ r q room
-    room' h.says k.says
+    one_room (packet_checks ds ps (length room₀)) (AnswersPut (Begins A) A (packet_document ds)) (answers_unique (Begins A) A (packet_document ds))
+    room₀ r q room room' h.says k.says
 
 pub starts_packets_unique : (ds ps ss room₀ : List ℕ) (r q : Counted) (room room' : List ℕ) → StartsPackets ds ps ss room₀ r room → StartsPackets ds ps ss
     room₀ q room' → (r ≡ q) × (room ≡ room')
