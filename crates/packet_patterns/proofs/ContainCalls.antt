@@ -1,13 +1,14 @@
 -- Containment on packets, from the contracts of the calls that it makes. Assumes nothing.
-use Rattle.tables.proofs.Kit.{ℕ, zero, suc, ◌+◌, ◌*◌, ◌≤◌, ◌≡◌, sym, ap, ap₂, ◌∙◌, subst, subst₂, ⊎_elim}
+use Rattle.tables.proofs.Kit.{ℕ, ◌+◌, ◌*◌, ◌≤◌, ◌≡◌, sym, ap, ap₂, ◌∙◌, subst, subst₂, ⊎_elim}
 use Rattle.tables.proofs.Kit.{List, [], ◌∷◌, ◌++◌, arith, length, get_or, take, drop, replicate, length-replicate, take_at}
-use Rattle.tables.specs.{Checks.room_for, Column.{column, step_no}, Document.{Document, document_of}, Pattern.{Shape, shape_of, ValidShape, ValidPattern}}
+use Rattle.tables.specs.{Checks.room_for, Column.{column, step_no}, Document.{Document, document_of}, Pattern.{Shape, shape_of, ValidShape}}
 use Rattle.tables.specs.{Refusal.{Check, Passes, Refuses}, declared.Refusal.Refusal, declared.NodeNo.NodeNo, declared.Pattern.Pattern, declared.Counted.Counted}
 use Rattle.tables.specs.declared.Checked.TheVariants as checked
 use Rattle.tables.specs.declared.Counted.TheVariants as counted
 use Rattle.tables.proofs.Outcomes.{refuses_front, refuses_rest, passes_both, last_holds}
 use Rattle.halves.specs.Bytes.{high, low}
-use Rattle.packets.specs.{PatternPacket.{packet_pattern, pattern_checks, ReadsTwo}, DocumentPacket.document_packet, declared.TwoRead.TwoRead, inner.Putting.Puts}
+use Rattle.packets.specs.{PatternPacket.{packet_pattern, pattern_checks, ReadsTwo}, DocumentPacket.document_packet}
+use Rattle.packets.specs.{declared.TwoRead.TwoRead, inner.Putting.Puts}
 use Rattle.packets.proofs.{Views.{TwoRight, two_of, two_told}, Putting.puts_rest}
 use Rattle.containment.specs.{Containment.{AnswersContainment, DecidesContainment}, Witness.{witness_size, witness_of}}
 use Rattle.containment.specs.{declared.Containment.Containment, declared.ContainmentAnswer.ContainmentAnswer}
@@ -70,7 +71,8 @@ module _ {xs ys : List ℕ} {t : TwoRead} (s : ReadsTwo xs ys t) where
           (λ w. last_holds (fresh_check A B) _ r (λ p. (omega (arith, m, l), omega (arith, m, l))) w.1) w.1) w in
           record {
             says = (
-              refuses_rest front (fresh_check A B ++ room_for 517 (length room₀)) r passes (refuses_front (fresh_check A B) (room_for 517 (length room₀)) r fresh),
+              refuses_rest front (fresh_check A B ++ room_for 517 (length room₀)) r passes
+                  (refuses_front (fresh_check A B) (room_for 517 (length room₀)) r fresh),
               k,
             );
           }

@@ -1,15 +1,15 @@
 -- The calls on packets of patterns, from the contracts of the calls that they make. Assumes nothing.
 use Rattle.tables.proofs.Kit.{ℕ, zero, suc, ◌≤◌, ◌≡◌, sym, ap, ◌∙◌, subst, subst₂, List, [], ◌∷◌, ◌++◌, arith, length, drop}
-use Rattle.tables.specs.{Checks.room_for, Pattern.{shape_of, table_of, pattern_of, zero_pattern, ValidPattern}}
+use Rattle.tables.specs.{Checks.room_for, Pattern.{shape_of, zero_pattern, ValidPattern}}
 use Rattle.tables.specs.{Refusal.{Check, Decided, CountedBy}, declared.Refusal.Refusal, declared.Pattern.Pattern, declared.Counted.Counted}
 use Rattle.tables.specs.declared.Checked.TheVariants as checked
 use Rattle.tables.specs.declared.Counted.TheVariants as counted
-use Rattle.tables.proofs.Outcomes.{refuses_front, refuses_rest, passes_both, passes_front, passes_rest, counted_rest, counted_known, counted_other}
+use Rattle.tables.proofs.Outcomes.{refuses_front, refuses_rest, passes_both, counted_rest, counted_known, counted_other}
 use Rattle.halves.specs.Bytes.{Bytes}
 use Rattle.packets.specs.PatternPacket.{pattern_packet, packet_pattern, pattern_checks, ReadsPattern, ReadsTwo, length_of, PacketPut, WritesPattern}
 use Rattle.packets.specs.{declared.PatternRead.PatternRead, declared.TwoRead.TwoRead}
 use Rattle.packets.proofs.{PatternTrip.{pattern_packet_length, read_then_written}, Views.{read_of, pattern_told, two_told}}
-use Rattle.joining.specs.{Join.{join_of, join_shape, join_checks, Joins}, declared.JoinAnswer.JoinAnswer}
+use Rattle.joining.specs.{Join.{join_of, join_checks, Joins}, declared.JoinAnswer.JoinAnswer}
 use Rattle.joining.proofs.Called.{called_valid}
 use Rattle.rewriting.specs.{Rewriting.{AnswersRewriting, Rewrites, rewriting_checks}, declared.Rewriting.Rewriting, declared.RewritingAnswer.RewritingAnswer}
 use Rattle.rewriting.specs.declared.Rewriting.TheVariants as rewriting

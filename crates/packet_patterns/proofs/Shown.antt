@@ -1,5 +1,5 @@
 -- What a containment call puts in the room: the packet of a witness and its answer node, or a mapping. Assumes nothing.
-use Rattle.tables.proofs.Kit.{ℕ, ◌+◌, ◌*◌, ◌≤◌, ◌≡◌, sym, ap, ◌∙◌, List, [], ◌∷◌, ◌++◌, arith, length, get_or, take, drop, get_or-map, ext_get_or}
+use Rattle.tables.proofs.Kit.{ℕ, ◌+◌, ◌*◌, ◌≤◌, ◌≡◌, sym, ap, ◌∙◌, List, [], ◌∷◌, ◌++◌, arith, get_or, take, drop, get_or-map, ext_get_or}
 use Rattle.tables.specs.{Column.{column, padded, step_no, step_array}, Document.{Document, node_count}, declared.StepNo.StepNo}
 use Rattle.tables.proofs.Columns.{put_block, column_length, column_at, padded_length}
 use Rattle.halves.specs.Bytes.{high, low}

@@ -34,8 +34,8 @@ rewritten_unique Q U room₀ room room' (suc c) (suc e) x y = put_unique (candid
 pub rewrites_packets_unique : (qs us room₀ : List ℕ) (r q : Counted) (room room' : List ℕ) → RewritesPackets qs us room₀ r room → RewritesPackets qs us room₀
     q room' → (r ≡ q) × (room ≡ room')
 rewrites_packets_unique qs us room₀ r q room room' h k =
-    one_room (rewrites_checks qs us (length room₀)) (Rewritten (packet_pattern qs) (packet_pattern us)) (rewritten_unique (packet_pattern qs) (packet_pattern us))
-    room₀ r q room room' h.says k.says
+    one_room (rewrites_checks qs us (length room₀)) (Rewritten (packet_pattern qs) (packet_pattern us))
+    (rewritten_unique (packet_pattern qs) (packet_pattern us)) room₀ r q room room' h.says k.says
 
 pub copies_packet_unique : (bs room₀ : List ℕ) (r q : Counted) (room room' : List ℕ) → CopiesPacket bs room₀ r room → CopiesPacket bs room₀ q room' → (r ≡ q)
     × (room ≡ room')
@@ -63,5 +63,5 @@ shown_unique A B room₀ room room' (suc (suc c)) e x y = absurd x
 pub contains_packets_unique : (xs ys room₀ : List ℕ) (r q : Counted) (room room' : List ℕ) → ContainsPackets xs ys room₀ r room → ContainsPackets xs ys room₀
     q room' → (r ≡ q) × (room ≡ room')
 contains_packets_unique xs ys room₀ r q room room' h k =
-    one_room (contains_checks xs ys (length room₀)) (Shown (packet_pattern xs) (packet_pattern ys)) (shown_unique (packet_pattern xs) (packet_pattern ys)) room₀ r q
-    room room' h.says k.says
+    one_room (contains_checks xs ys (length room₀)) (Shown (packet_pattern xs) (packet_pattern ys))
+    (shown_unique (packet_pattern xs) (packet_pattern ys)) room₀ r q room room' h.says k.says

@@ -1,6 +1,6 @@
 -- `packet_patterns::put_mapping` meets its contract: the room, and then the steps before the one looked at are written. Assumes nothing.
-use Rattle.tables.proofs.Kit.{◌+◌, ◌≡◌, refl, get_or, length-set, arith, rules}
-use Rattle.tables.specs.Column.{blocks, column, step_no}
+use Rattle.tables.proofs.Kit.{refl, get_or, length-set, arith, rules}
+use Rattle.tables.specs.Column.{blocks, step_no}
 use Rattle.tables.proofs.Columns.{column_next}
 use Rattle.packet_patterns.proofs.put_mapping.Goals as goal
 

