@@ -1,7 +1,7 @@
 -- What the sign of an entry's number tells C: 0 or more is an answer and no refusal, and every check holds; minus k is the refusal with number k, by the first
 -- check that fails, and everything that was lent is as it was. Assumes nothing.
-use Rattle.tables.proofs.Kit.{ℕ, suc, ◌≡◌, refl, sym, ap, ◌∙◌, subst, List, ◌++◌, ℤ, pos, negsuc, neg_ℤ, nat_abs, pos-ne-negsuc, length, drop}
-use Rattle.tables.specs.{Checks.room_for, Document.Document, Pattern.shape_of, Refusal.{number, Check, Passes, Refuses, CountedBy}, declared.Refusal.Refusal}
+use Rattle.tables.proofs.Kit.{ℕ, suc, ◌≡◌, refl, sym, ap, ◌∙◌, subst, List, ◌++◌, ℤ, negsuc, nat_abs, pos-ne-negsuc, length, drop}
+use Rattle.tables.specs.{Checks.room_for, Document.Document, Pattern.shape_of, Refusal.{number, Check, Passes, CountedBy}, declared.Refusal.Refusal}
 use Rattle.tables.specs.declared.Refusal.TheVariants.{Version, Length, BadPattern, BadDocument, Room, Start, OtherLabel, TooLarge, NoLabel}
 use Rattle.tables.specs.declared.Counted.{Counted}
 use Rattle.tables.specs.declared.Counted.TheVariants as counted
