@@ -6,8 +6,8 @@
 #
 # SAMPLES=N sets the samples of each time (101).
 #
-# Both sides run on the processor at hand. On x86-64 the archive is that of `rt lib` in crates/station, and hand.c is compiled for the same plain x86-64. On Arm,
-# where that archive does not link, the kit's clang compiles the same LLVM module once more for Arm.
+# Both sides run on the processor at hand. On x86-64 the archive is that of `rt lib` in crates/station, and hand.c is compiled for the same plain x86-64. On
+# Arm, where that archive does not link, the kit's clang compiles the same LLVM module once more for Arm.
 set -euo pipefail
 cd "$(dirname "$0")/.."
 out=${1:-}

@@ -8,7 +8,18 @@ use Rattle.packets.specs.PatternPacket.{pattern_packet, packet_shape, pattern_ch
 use Rattle.packets.proofs.PatternTrip.{pattern_packet_passes}
 use Rattle.placing.specs.Answer.{Begins, Answer, Started, In, Lists}
 use Rattle.answers.specs.Working.{Working}
-use Rattle.answers.proofs.Tested.{begins, tells_begins, is_in, tells_in, is_start_list, tells_start_list, tested_answers, answers_of, tested_working, working_of}
+use Rattle.answers.proofs.Tested.{
+  begins,
+  tells_begins,
+  is_in,
+  tells_in,
+  is_start_list,
+  tells_start_list,
+  tested_answers,
+  answers_of,
+  tested_working,
+  working_of,
+}
 use Rattle.containment.specs.Witness.{Fresh, witness_of, answer_node}
 use Rattle.containment.proofs.Contained.{witness_valid, witness_answers, witness_apart}
 use Rattle.containment.proofs.{Deciding.{maps_into, least_mapping, least_mapping_lem, tells_maps, tells_contained}, FreshLabel.{fresh_label, fresh_label_lem}}
@@ -29,7 +40,8 @@ test d (apart A B l w i) =
 test d (equal A B) = is_pattern (shape_of A) && (is_pattern (shape_of B) && (maps_into (shape_of B) (shape_of A) && maps_into (shape_of A) (shape_of B)))
 test d (handed Q U C) =
     is_pattern (shape_of Q) && (is_pattern (shape_of U) && (ltb Q.count 33 && (ltb U.count 33 && (rewritable Q U && same_pattern C (candidate_of Q U)))))
-test d (started C ss xs) = is_pattern (shape_of C) && (eqb ((shape_of C).axis 0) 0 && (is_start_list d ss && same_list (tested_answers (shape_of C) d (is_in ss)) xs))
+test d (started C ss xs) = is_pattern (shape_of C) && (eqb ((shape_of C).axis 0) 0 &&
+    (is_start_list d ss && same_list (tested_answers (shape_of C) d (is_in ss)) xs))
 test d (nothing Q U) = is_pattern (shape_of Q) && (is_pattern (shape_of U) && (ltb Q.count 33 && (ltb U.count 33 && not (rewritable Q U))))
 
 unfoldable pub test_all : Document → List Fact → Bool

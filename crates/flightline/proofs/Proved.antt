@@ -21,21 +21,28 @@ line_valid = (tells_document line).says tt
 
 -- the three parts of the table pass
 answers_pass : T (test_all line answer_cases)
-unfolding answer_cases line view posed controlled top_strip nested_strips pattern pattern_of table_of blocks step_array test test_all is_pattern is_right_step is_label
-    hangs_right is_from is_below climbs is_child every some same_list same_pattern step_bytes pattern_packet packet_shape first_from pick chosen best passing can can_send
+unfolding answer_cases line view posed controlled top_strip nested_strips pattern pattern_of table_of blocks step_array test test_all is_pattern is_right_step
+    is_label
+    hangs_right is_from is_below climbs is_child every some same_list same_pattern step_bytes pattern_packet packet_shape first_from pick chosen best passing
+    can can_send
     whole_to can_whole label_fits takes begins tested_answers entries_of tested_working mask
 answers_pass = tt
 
 containment_passes : T (test_all line containment_cases)
-unfolding containment_cases line view controlled two_frames one_frame view_witness pattern pattern_of table_of blocks step_array test test_all is_pattern is_right_step
-    is_label hangs_right is_from is_below climbs is_child every some same_list same_document first_from pick chosen best can can_send whole_to can_whole label_fits takes
+unfolding containment_cases line view controlled two_frames one_frame view_witness pattern pattern_of table_of blocks step_array test test_all is_pattern
+    is_right_step
+    is_label hangs_right is_from is_below climbs is_child every some same_list same_document first_from pick chosen best can can_send whole_to can_whole
+    label_fits takes
     descendants own_node_of hook parents_for labels_for witness_of maps_into least_mapping stands_in is_free fresh_label
 containment_passes = tt
 
 rewriting_passes : T (test_all line rewriting_cases)
-unfolding rewriting_cases line view posed controlled top_strip nested_strips frame_posed line_poses line_strips strip_poses pattern pattern_of table_of blocks step_array
-    test test_all is_pattern is_right_step is_label hangs_right is_from is_below climbs is_child every some same_list same_pattern first_from pick chosen best passing can
-    can_send whole_to can_whole label_fits takes is_in is_start_list tested_answers entries_of mask maps_into renumber by_part join_shape join_of path_to main_path cut_step how_many
+unfolding rewriting_cases line view posed controlled top_strip nested_strips frame_posed line_poses line_strips strip_poses pattern pattern_of table_of blocks
+    step_array
+    test test_all is_pattern is_right_step is_label hangs_right is_from is_below climbs is_child every some same_list same_pattern first_from pick chosen best
+    passing can
+    can_send whole_to can_whole label_fits takes is_in is_start_list tested_answers entries_of mask maps_into renumber by_part join_shape join_of path_to
+    main_path cut_step how_many
     cut_shape candidate_of has_candidate join_equal rewritable
 rewriting_passes = tt
 

@@ -155,7 +155,8 @@ candidate_alike {Q} {Q'} {U} {U'} same-q same-u q u E h =
     let c : cut_step (shape_of Q) (shape_of U) ≡ cut_step (shape_of Q') (shape_of U') = ap₂ (λ xs ys. get_or xs (length ys - 1) 0) p r in
     let o = f.output in
     record {
-      long = subst (λ (x : ℕ). x ≤ length (main_path (shape_of Q'))) (ap length r) (subst (λ (x : ℕ). length (main_path (shape_of U)) ≤ x) (ap length p) h.long);
+      long = subst (λ (x : ℕ). x ≤ length (main_path (shape_of Q'))) (ap length r)
+          (subst (λ (x : ℕ). length (main_path (shape_of U)) ≤ x) (ap length p) h.long);
       same = ap (shape_of U').label (sym o) ∙ sym (f.label (shape_of U).output u.output) ∙ h.same
           ∙ e.label (cut_step (shape_of Q) (shape_of U)) (omega (arith, q.output, h.cut.output)) ∙ ap (shape_of Q').label c;
       shape = h.shape;

@@ -25,14 +25,16 @@ module _ (A B : Pattern) (parents₀ labels₀ : List ℕ) where
   contained_exactly r parents labels h c = exactly r.answer r.mapping parents labels h c
 
   -- where it says apart, the Answers call lists the answer node for A on the document handed over
-  pub apart_listed : (r : ContainmentAnswer) (parents labels : List ℕ) (m : ℕ) (i : NodeNo) → DecidesContainment A B parents₀ labels₀ r parents labels → r.answer ≡ containment.Apart m i
+  pub apart_listed : (r : ContainmentAnswer) (parents labels : List ℕ) (m : ℕ) (i : NodeNo) → DecidesContainment A B parents₀ labels₀ r parents labels →
+      r.answer ≡ containment.Apart m i
       → (l₀ w₀ : List ℕ) (c : ℕ) (l w : List ℕ) → FindsAnswers A (front_of m parents labels) l₀ w₀ (counted.Count c) l w → In (take c l) i.0
   apart_listed r parents labels m i h e l₀ w₀ c l w f =
       (front (shape_of A) (front_of m parents labels) (Begins (shape_of A)) l₀ w₀ c l w f.1).complete i.0
       (call_apart A B parents₀ labels₀ r parents labels m i h e).answers
 
   -- and does not for B
-  pub apart_missed : (r : ContainmentAnswer) (parents labels : List ℕ) (m : ℕ) (i : NodeNo) → DecidesContainment A B parents₀ labels₀ r parents labels → r.answer ≡ containment.Apart m i
+  pub apart_missed : (r : ContainmentAnswer) (parents labels : List ℕ) (m : ℕ) (i : NodeNo) → DecidesContainment A B parents₀ labels₀ r parents labels →
+      r.answer ≡ containment.Apart m i
       → (l₀ w₀ : List ℕ) (c : ℕ) (l w : List ℕ) → FindsAnswers B (front_of m parents labels) l₀ w₀ (counted.Count c) l w → In (take c l) i.0 → ⊥
   apart_missed r parents labels m i h e l₀ w₀ c l w f x =
       (call_apart A B parents₀ labels₀ r parents labels m i h e).misses
