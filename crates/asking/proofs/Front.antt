@@ -1,5 +1,5 @@
 -- The first 8,716 bytes of an input decide what is printed: whatever follows them changes nothing. Assumes nothing.
-use Rattle.tables.proofs.Kit.{ℕ, ◌+◌, ◌*◌, ◌-◌, ◌≤◌, ◌<◌, ◌≡◌, sym, ap, ap₂, ◌∙◌, subst, ◌⊎◌, inl, inr, ⊎_elim, List, [], ◌∷◌, arith, dec_lt}
+use Rattle.tables.proofs.Kit.{ℕ, ◌+◌, ◌*◌, ◌-◌, ◌≤◌, ◌<◌, ◌≡◌, sym, ap, ap₂, ◌∙◌, subst, inl, inr, ⊎_elim, List, [], ◌∷◌, arith, dec_lt}
 use Rattle.tables.proofs.Kit.{length, get_or, take, drop, length-drop, take_all, take-take, take-add, length-take-le, get_or-take, get_or-drop, drop_at}
 use Rattle.tables.specs.{Refusal.{Passes, Refuses}, declared.Refusal.Refusal}
 use Rattle.halves.specs.Bytes.{half}

@@ -1,6 +1,6 @@
 -- Laws of the writers: one byte, one text after another, and how long the lines are. Assumes nothing.
 use Rattle.tables.proofs.Kit.{ℕ, zero, suc, ◌+◌, ◌*◌, ◌≤◌, ◌<◌, ◌≡◌, refl, sym, ap, ap₂, ◌∙◌, subst, List, [], ◌∷◌, ◌++◌, append_assoc, append-nil}
-use Rattle.tables.proofs.Kit.{arith, add-zero, add-one, length, get_or, take, drop, set, length-append, length-drop, length-set, take-append-drop}
+use Rattle.tables.proofs.Kit.{arith, add-zero, add-one, length, get_or, take, drop, set, length-append, length-set, take-append-drop}
 use Rattle.tables.proofs.Kit.{set_split, length-take-le, take-suc, take_all, append_snoc}
 use Rattle.tables.specs.Column.{blocks}
 use Rattle.tables.proofs.Columns.{blocks_fit, put_block}

@@ -1,5 +1,5 @@
 -- `asking::next_at` meets its contract: the input ends first, or the packet does. Assumes nothing.
-use Rattle.tables.proofs.Kit.{◌+◌, ap, ◌∙◌, arith, rules}
+use Rattle.tables.proofs.Kit.{◌+◌, ap, ◌∙◌, arith}
 use Rattle.asking.proofs.Parts.{next_cut, next_whole}
 use Rattle.asking.proofs.next_at.Goals as goal
 

@@ -1,5 +1,5 @@
 -- `asking::pattern_at` meets its contract: the bytes up to the next packet are read. Assumes nothing.
-use Rattle.tables.proofs.Kit.{◌-◌, ◌≡◌, subst, arith, take, drop, rules}
+use Rattle.tables.proofs.Kit.{◌-◌, ◌≡◌, subst, arith, take, drop}
 use Rattle.packets.specs.PatternPacket.{ReadsPattern}
 use Rattle.asking.specs.Parts.{packet_at}
 use Rattle.asking.proofs.Parts.{next_within, part_is}

@@ -1,5 +1,5 @@
 -- `asking::text::put_byte` meets its contract: one store. Assumes nothing.
-use Rattle.tables.proofs.Kit.{arith, rules}
+use Rattle.tables.proofs.Kit.{arith}
 use Rattle.asking.proofs.Writing.{wrote_byte}
 use Rattle.asking.proofs.text.put_byte.Goals as goal
 

@@ -1,5 +1,5 @@
 -- `asking::text::put_item` meets its contract: a space, then the digits. Assumes nothing.
-use Rattle.tables.proofs.Kit.{arith, rules}
+use Rattle.tables.proofs.Kit.{arith}
 use Rattle.asking.proofs.Writing.{wrote_then}
 use Rattle.asking.proofs.text.put_item.Goals as goal
 

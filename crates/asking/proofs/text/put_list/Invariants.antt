@@ -1,6 +1,6 @@
 -- `asking::text::put_list` meets its contract: the numbers before the one looked at are put. Assumes nothing.
-use Rattle.tables.proofs.Kit.{◌-◌, arith, length, rules}
-use Rattle.asking.proofs.Writing.{Spaced, spaced_none, spaced_room, spaced_next, spaced_all}
+use Rattle.tables.proofs.Kit.{◌-◌, length}
+use Rattle.asking.proofs.Writing.{Spaced}
 use Rattle.asking.proofs.text.put_list.Given as goal
 
 abbrev pub invariant-loop-i : goal.invariant-loop-i

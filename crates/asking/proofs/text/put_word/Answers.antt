@@ -1,6 +1,6 @@
 -- `asking::text::put_word` meets its contract: the bytes before the one looked at are put. Assumes nothing.
-use Rattle.tables.proofs.Kit.{◌-◌, arith, length, rules}
-use Rattle.asking.proofs.Writing.{Copied, copied_none, copied_next, copied_all}
+use Rattle.tables.proofs.Kit.{arith}
+use Rattle.asking.proofs.Writing.{copied_none, copied_next, copied_all}
 use Rattle.asking.proofs.text.put_word.Goals as goal
 
 pub loop-i-init : goal.loop-i-init
