@@ -1,5 +1,5 @@
 -- Lists of the numbers of which a statement holds: only one fits, and a test over a range writes it. Assumes nothing.
-use Rattle.tables.proofs.Kit.{ℕ, zero, suc, ◌+◌, ◌≤◌, ◌<◌, ◌≡◌, refl, sym, ap, ◌∙◌, subst, ◌⊎◌, inl, inr, ⊎_elim, ◌↔◌, Bool, true, false, cond}
+use Rattle.tables.proofs.Kit.{ℕ, zero, suc, ◌≤◌, ◌<◌, ◌≡◌, refl, sym, ap, ◌∙◌, subst, ◌⊎◌, inl, inr, ⊎_elim, ◌↔◌, Bool, true, false, cond}
 use Rattle.tables.proofs.Kit.{List, [], ◌∷◌, ◌++◌, arith, dec_lt, ℕ_discrete, length, get_or, length-append, get_or-append, get_or-append-add, ext_get_or}
 use Rattle.tables.specs.{Document.{Document, node_count}, Pattern.Shape}
 use Rattle.tables.proofs.{Choice.below_or_at, Tests.Tells}

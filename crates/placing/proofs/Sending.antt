@@ -3,7 +3,7 @@ use Rattle.tables.proofs.Kit.{ℕ, zero, suc, ◌<◌, ◌↔◌, Bool, ◌&&◌
 use Rattle.tables.specs.{Tree.Rows, Pattern.Shape}
 use Rattle.tables.proofs.{Trees.Ordered, Tests.{Tells, tells_lt, tells_eq, tells_and, tells_iff}, TreeTests.{is_child, tells_child, is_below, tells_below}}
 use Rattle.placing.specs.Placement.{LabelFits, Takes, Goes, Sends, Reaches, ReachesFrom}
-use Rattle.placing.proofs.{Fit.{Task, Fit, Able, fit_able, able_fit, Whole}, Probe.{Probe, Probes, can, can_send, can_whole, tells_can, tells_whole}}
+use Rattle.placing.proofs.{Fit.{Task, Fit, Able, fit_able, able_fit, Whole}, Probe.{Probe, Probes, can_send, can_whole, tells_can, tells_whole}}
 
 -- the task of sending a pattern's steps to rows
 abbrev pub task : Shape → Rows → Task

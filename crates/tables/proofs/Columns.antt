@@ -1,5 +1,5 @@
 -- Laws of blocks, of columns, of arrays that are zero past their first entries, and of steps in arrays. Assumes nothing.
-use Rattle.tables.proofs.Kit.{ℕ, zero, suc, ◌+◌, ◌*◌, ◌-◌, ◌≤◌, ◌<◌, ◌≡◌, refl, sym, ap, ap₂, ◌∙◌, subst}
+use Rattle.tables.proofs.Kit.{ℕ, zero, suc, ◌+◌, ◌*◌, ◌≤◌, ◌<◌, ◌≡◌, refl, sym, ap, ap₂, ◌∙◌, subst}
 use Rattle.tables.proofs.Kit.{List, [], ◌∷◌, ◌++◌, map, append_assoc, arith, zero-mul, suc-mul, add-one, length, get_or, set, take, drop}
 use Rattle.tables.proofs.Kit.{replicate, length-append, length-drop, length-replicate, length-map, get_or-append, get_or-map}
 use Rattle.tables.proofs.Kit.{get_or-append-add, drop-cons, drop-drop, drop-append-add, take_at, set_at, ext_get_or}

@@ -1,8 +1,8 @@
 -- Laws of numbers whose bits are marks: how marks are joined, one more is put, and only one number fits. Assumes nothing.
-use Rattle.tables.proofs.Kit.{ℕ, zero, suc, ◌+◌, ◌*◌, ◌/◌, ◌%◌, ◌^◌, ◌<◌, ◌≡◌, sym, ap, ◌∙◌, subst, ◌⊎◌, inl, inr, ⊎_elim, arith}
+use Rattle.tables.proofs.Kit.{ℕ, zero, suc, ◌+◌, ◌*◌, ◌%◌, ◌^◌, ◌<◌, ◌≡◌, sym, ap, ◌∙◌, subst, ◌⊎◌, inl, inr, ⊎_elim, arith}
 use Rattle.tables.proofs.Kit.{ℕ_discrete, dec_lt, Bool, true, false, cond, pow-succ', zero-add, mod-lt, bit_or, bit_and, bit_xor, or_shifted_r, pow_pos}
 use Rattle.tables.specs.Bits.{bit, Marks}
-use Rattle.tables.proofs.Bits.{bit_zero, bit_lt, bit_or_lem, bit_and_lem, bit_without, bit_shr, bit_mod, bit_high, bit_pow, bit_other, bits_same}
+use Rattle.tables.proofs.Bits.{bit_zero, bit_lt, bit_or_lem, bit_and_lem, bit_without, bit_mod, bit_high, bit_pow, bit_other, bits_same}
 use Rattle.tables.proofs.{Choice.below_or_at, Tests.Tells}
 
 -- a bit that is not 1 is 0

@@ -1,5 +1,5 @@
 -- A call answers or refuses, never both, and refuses by one number. Assumes nothing.
-use Rattle.tables.proofs.Kit.{ℕ, ◌≡◌, refl, sym, ap, ◌∙◌, ◌⊎◌, inl, ⊎_elim, List, [], ◌∷◌, get_or}
+use Rattle.tables.proofs.Kit.{ℕ, ◌≡◌, refl, sym, ap, ◌∙◌, inl, ⊎_elim, List, [], ◌∷◌, get_or}
 use Rattle.tables.specs.{Refusal.{number, Check, Passes, Refuses, Decided, CountedBy}, declared.Refusal.Refusal}
 use Rattle.tables.specs.declared.Refusal.TheVariants.{Version, Length, BadPattern, BadDocument, Room, Start, OtherLabel, TooLarge, NoLabel}
 use Rattle.tables.specs.{declared.Checked.Checked, declared.Counted.Counted}

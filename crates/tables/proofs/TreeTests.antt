@@ -1,5 +1,5 @@
 -- Tests for "child", "below" and the rule for a row's parent, by climbing: they run, and tell what the definitions say. Assumes nothing.
-use Rattle.tables.proofs.Kit.{ℕ, zero, suc, ◌≤◌, sym, ◌⊎◌, inl, inr, ⊎_elim, Bool, false, ◌&&◌, ◌||◌, arith, T, ltb, eqb}
+use Rattle.tables.proofs.Kit.{ℕ, zero, suc, ◌≤◌, sym, inl, inr, ⊎_elim, Bool, false, ◌&&◌, ◌||◌, arith, T, ltb, eqb}
 use Rattle.tables.specs.Tree.{Tree, Child, Below, child, under, From, Hangs}
 use Rattle.tables.proofs.{Trees.{Ordered, below_lt, below_up}, Tests.{Tells, tells_lt, tells_eq, tells_and, tells_or, tells_iff, tells_self}}
 

@@ -1,6 +1,6 @@
 -- Laws of trees in document order: parents come first, what lies below a row comes after it. Assumes nothing.
 use Rattle.tables.proofs.Kit.{ℕ, zero, suc, ◌≤◌, ◌<◌, ◌≡◌, refl, sym, ◌∙◌, subst}
-use Rattle.tables.proofs.Kit.{◌⊎◌, inl, inr, ⊎_elim, arith, eq-zero-or-pos, dec_lt, ℕ_discrete, map_dec}
+use Rattle.tables.proofs.Kit.{inl, inr, ⊎_elim, arith, eq-zero-or-pos, dec_lt, ℕ_discrete, map_dec}
 use Rattle.tables.specs.Tree.{Tree, Child, Below, child, under, From}
 
 pub below_trans : {T : Tree} {a m i : ℕ} → Below T a m → Below T m i → Below T a i

@@ -1,7 +1,6 @@
 -- `halves::get_halves` meets its contract: the numbers before the one looked at stand in the list, which keeps its other entries. Assumes nothing.
-use Rattle.tables.proofs.Kit.{◌+◌, ◌*◌, ◌-◌, ◌≤◌, ◌≡◌, ◌++◌, arith, length, drop, length-set, rules}
-use Rattle.tables.specs.Column.{blocks, column}
-use Rattle.tables.proofs.Columns.{column_next}
+use Rattle.tables.proofs.Kit.{◌+◌, ◌*◌, ◌-◌, ◌≤◌, ◌≡◌, ◌++◌, length, drop}
+use Rattle.tables.specs.Column.{column}
 use Rattle.halves.specs.Bytes.{half}
 use Rattle.halves.proofs.get_halves.Given as goal
 

@@ -1,5 +1,5 @@
 -- `halves::put_half` meets its contract: two stores in a row. Assumes nothing.
-use Rattle.tables.proofs.Kit.{suc, ◌+◌, ◌≡◌, [], ◌∷◌, arith, length-set, sets-eq, rules}
+use Rattle.tables.proofs.Kit.{suc, ◌+◌, ◌≡◌, [], ◌∷◌, arith, length-set, sets-eq}
 use Rattle.halves.specs.Bytes.{high, low}
 use Rattle.halves.proofs.put_half.Goals as goal
 

@@ -1,7 +1,7 @@
 -- `halves::put_halves` meets its contract: the numbers before the one looked at are written. Assumes nothing.
-use Rattle.tables.proofs.Kit.{◌+◌, ◌*◌, ◌-◌, ◌≤◌, ◌≡◌, refl, arith}
+use Rattle.tables.proofs.Kit.{◌-◌, ◌≤◌}
 use Rattle.halves.specs.Bytes.{half_bytes}
-use Rattle.halves.proofs.Rows.{RowsPut, rows_none, rows_next}
+use Rattle.halves.proofs.Rows.{RowsPut}
 use Rattle.halves.proofs.put_halves.Given as goal
 
 abbrev pub invariant-loop-k : goal.invariant-loop-k

@@ -1,7 +1,6 @@
 -- `tables::bare_numbers` meets its contract: the numbers of the steps before the one looked at are taken. Assumes nothing.
-use Rattle.tables.proofs.Kit.{◌-◌, ◌≤◌, ◌≡◌, refl, ◌∙◌, get_or, arith, rules}
-use Rattle.tables.specs.Column.{blocks, padded, step_no}
-use Rattle.tables.proofs.Columns.{padded_next, bare_all}
+use Rattle.tables.proofs.Kit.{◌-◌, ◌≤◌, ◌≡◌, get_or}
+use Rattle.tables.specs.Column.{padded, step_no}
 use Rattle.tables.proofs.bare_numbers.Given as goal
 
 abbrev pub invariant-loop-s : goal.invariant-loop-s

@@ -1,7 +1,7 @@
 -- `tables::check_document` meets its contract: every node before the one looked at obeys its rule. Assumes nothing.
-use Rattle.tables.proofs.Kit.{ℕ, ◌-◌, ◌≤◌, ◌<◌, ◌≡◌, ⊎_elim, length, below_more}
-use Rattle.tables.proofs.Kit.{ltb-true, ltb-false, eqb-true, eqb-false, not-true, not-false, arith, rules}
-use Rattle.tables.specs.{declared.Refusal.TheVariants.BadDocument, Document.{NodeRule, document_of}}
+use Rattle.tables.proofs.Kit.{⊎_elim, below_more}
+use Rattle.tables.proofs.Kit.{arith}
+use Rattle.tables.specs.{declared.Refusal.TheVariants.BadDocument}
 use Rattle.tables.proofs.{Refusals.refused, Tests.{passed, failed}}
 use Rattle.tables.proofs.check_document.Goals as goal
 

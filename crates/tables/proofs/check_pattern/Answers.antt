@@ -1,7 +1,6 @@
 -- `tables::check_pattern` meets its contract: the counts, and then the steps in its lists. Assumes nothing.
-use Rattle.tables.proofs.Kit.{ℕ, ◌≤◌, ◌<◌, ◌≡◌, refl, sym, subst, ◌↔◌, ⊎_elim, T, List, length, take, length-take, arith, rules}
-use Rattle.tables.specs.{Column.bare_numbers_of, Pattern.{StepRule, ValidPattern}, inner.Steps.steps_of}
-use Rattle.tables.specs.declared.{Pattern.Pattern, Refusal.TheVariants.BadPattern}
+use Rattle.tables.proofs.Kit.{◌≡◌, refl, sym, subst, ⊎_elim, T, length, arith, rules}
+use Rattle.tables.specs.declared.{Refusal.TheVariants.BadPattern}
 use Rattle.tables.proofs.{Agreement.steps_valid, Refusals.refused}
 use Rattle.tables.proofs.check_pattern.Goals as goal
 

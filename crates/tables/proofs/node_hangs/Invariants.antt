@@ -1,6 +1,5 @@
 -- `tables::node_hangs` meets its contract: the loop is the climb of Climbing. Assumes nothing.
-use Rattle.tables.proofs.Kit.{arith, rules}
-use Rattle.tables.proofs.Hanging.{listed, Climbs, first_hangs, climb_falls, climb_starts, climb_goes, climb_ends}
+use Rattle.tables.proofs.Hanging.{listed, Climbs}
 use Rattle.tables.proofs.node_hangs.Given as goal
 
 abbrev pub invariant-loop-a : goal.invariant-loop-a

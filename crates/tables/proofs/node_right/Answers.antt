@@ -1,5 +1,5 @@
 -- `tables::node_right` meets its contract: a label that is not 0, and then the climb. Assumes nothing.
-use Rattle.tables.proofs.Kit.{arith, rules}
+use Rattle.tables.proofs.Kit.{arith}
 use Rattle.tables.proofs.node_right.Goals as goal
 
 pub returns : goal.returns

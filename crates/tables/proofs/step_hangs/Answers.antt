@@ -1,6 +1,6 @@
 -- `tables::step_hangs` meets its contract: the loop is the climb of Climbing. Assumes nothing.
-use Rattle.tables.proofs.Kit.{arith, rules}
-use Rattle.tables.proofs.Hanging.{listed, Climbs, first_hangs, climb_falls, climb_starts, climb_goes, climb_ends}
+use Rattle.tables.proofs.Kit.{arith}
+use Rattle.tables.proofs.Hanging.{listed, first_hangs, climb_falls, climb_starts, climb_goes, climb_ends}
 use Rattle.tables.proofs.step_hangs.Goals as goal
 
 pub returns-then-s-eq0 : goal.returns-then-s-eq0

@@ -1,5 +1,5 @@
 -- `tables::step_right` meets its contract: the axis, a label that is not 0, and then the climb. Assumes nothing.
-use Rattle.tables.proofs.Kit.{ℕ, ◌≤◌, ◌≡◌, ◌⊎◌, inl, inr, ⊎_elim, eq-zero-or-pos, get_or, eqb-true, eqb-false, arith, rules}
+use Rattle.tables.proofs.Kit.{ℕ, ◌≤◌, ◌≡◌, ◌⊎◌, inl, inr, ⊎_elim, eq-zero-or-pos, arith}
 use Rattle.tables.proofs.step_right.Goals as goal
 
 zero_or_one : {x : ℕ} → x ≤ 1 → (x ≡ 0) ⊎ (x ≡ 1)

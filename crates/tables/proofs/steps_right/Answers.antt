@@ -1,6 +1,5 @@
 -- `tables::steps_right` meets its contract: every step before the one looked at obeys its rule. Assumes nothing.
-use Rattle.tables.proofs.Kit.{ℕ, ◌-◌, ◌≤◌, ◌<◌, length, below_more, arith, rules}
-use Rattle.tables.specs.{Pattern.StepRule, inner.Steps.steps_of}
+use Rattle.tables.proofs.Kit.{below_more, arith}
 use Rattle.tables.proofs.Tests.{passed, failed}
 use Rattle.tables.proofs.steps_right.Goals as goal
 

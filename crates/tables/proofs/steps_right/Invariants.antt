@@ -1,7 +1,6 @@
 -- `tables::steps_right` meets its contract: every step before the one looked at obeys its rule. Assumes nothing.
-use Rattle.tables.proofs.Kit.{ℕ, ◌-◌, ◌≤◌, ◌<◌, length, below_more, arith, rules}
+use Rattle.tables.proofs.Kit.{ℕ, ◌-◌, ◌≤◌, ◌<◌, length}
 use Rattle.tables.specs.{Pattern.StepRule, inner.Steps.steps_of}
-use Rattle.tables.proofs.Tests.{passed, failed}
 use Rattle.tables.proofs.steps_right.Given as goal
 
 abbrev pub invariant-loop-s : goal.invariant-loop-s
