@@ -17,7 +17,8 @@ third_unique : (d : Document) (Q U : Pattern) (starts s t : List ℕ) → ThirdL
 third_unique d Q U starts s t (handed E xs h l e) (handed F ys k m f) =
     let c : E ≡ F = candidate_unique h.1 k.1 in
     e
-    ∙ ap (line rewriting_word) (lists_unique (Started (In starts) (shape_of E) d) xs ys l (subst (λ G. Lists (Started (In starts) (shape_of G) d) ys) (sym c) m))
+    ∙ ap (line rewriting_word) (lists_unique (Started (In starts) (shape_of E) d) xs ys l
+    (subst (λ G. Lists (Started (In starts) (shape_of G) d) ys) (sym c) m))
     ∙ sym f
 third_unique d Q U starts s t (handed E xs h l e) (none k f) = absurd (k.1 E h.1 h.2)
 third_unique d Q U starts s t (handed E xs h l e) (refused k f) = absurd (refuses_not_passes (rewriting_checks Q U) TooLarge k.0 h.0)

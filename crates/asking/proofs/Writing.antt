@@ -122,7 +122,13 @@ pub refused_length : (k : ℕ) (w : List ℕ) → length (refused_line k w) ≡ 
 unfolding refused_line
 refused_length k w =
     length-append (refused_word ++ item k ++ (32 ∷ []) ++ w) (10 ∷ [])
-    ∙ omega (arith, length-append (refused_word ++ item k ++ (32 ∷ [])) w, length-append (refused_word ++ item k) (32 ∷ []), length-append refused_word (item k))
+    ∙ omega (
+      arith,
+      length-append (refused_word ++ item k ++ (32 ∷ [])) w,
+      length-append (refused_word ++ item k) (32 ∷ []),
+      length-append refused_word
+          (item k),
+    )
 
 -- the line of a refusal, whose number has one digit
 pub refused_short : (k : ℕ) (w : List ℕ) → k < 10 → length (refused_line k w) ≤ length w + 14
