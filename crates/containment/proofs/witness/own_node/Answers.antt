@@ -18,7 +18,7 @@ few : (c : After-descendants_before) → own_node_of (shape_of c.args.a) c.args.
 few c = own_few (shape_of c.args.a) c.requires.0 c.args.s.0 c.requires.1
 
 pub returns : goal.returns
-returns c = ap node_no (own (goal.at.returns c).After-descendants_before)
+returns c = ap node_no (omega (arith, own (goal.at.returns c).After-descendants_before))
 
 pub overflow_add-result : goal.overflow_add-result
 overflow_add-result c = let d = (goal.at.overflow_add-result c).After-descendants_before in omega (arith, few d, own d)
