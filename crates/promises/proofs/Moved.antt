@@ -1,5 +1,5 @@
 -- What fits the contract of a call on one pattern fits it for every table with the same steps. Assumes nothing.
-use Rattle.tables.proofs.Kit.{ℕ, ◌+◌, ◌≡◌, refl, sym, ap, ◌∙◌, ◌↔◌, List, ◌++◌, arith, length, drop}
+use Rattle.tables.proofs.Kit.{ℕ, ◌≡◌, sym, ap, ◌∙◌, ◌↔◌, List, ◌++◌, arith, length, drop}
 use Rattle.tables.specs.{Checks.{pattern_right, ChecksPattern}, Document.Document, Pattern.{shape_of, ValidPattern}}
 use Rattle.tables.specs.{declared.Pattern.Pattern, declared.Checked.Checked, declared.Counted.Counted}
 use Rattle.tables.proofs.{Rules.agree_sym, Agreement.valid_agree}

@@ -1,5 +1,5 @@
 -- What fits the contract of a call on two patterns fits it for all tables with the same steps. Assumes nothing.
-use Rattle.tables.proofs.Kit.{ℕ, ◌+◌, ◌≡◌, refl, sym, ap, ◌∙◌, subst, List, ◌++◌, arith, length, drop}
+use Rattle.tables.proofs.Kit.{ℕ, ◌≡◌, refl, sym, ap, ◌∙◌, subst, List, ◌++◌, arith, length, drop}
 use Rattle.tables.specs.{Column.{node_no, step_array}, Pattern.{shape_of, zero_pattern, ValidPattern}, declared.Pattern.Pattern, declared.StepNo.StepNo}
 use Rattle.tables.proofs.Rules.{agree_sym}
 use Rattle.containment.specs.{Mapping.Equal, Witness.witness_size, Containment.{containment_checks, AnswersContainment}}
