@@ -101,18 +101,6 @@ module _ (A : Shape) (d : Document) (First : ℕ → Type 0) (va : ValidShape A)
     written = ap (λ x. set x c k) h.written ∙ put_next h.answers before c k (sym h.count) l;
   }
 
-  -- after the last node the list is that of all answers
-  pub listed_found : (c : ℕ) (list₀ list work₀ work allowed : List ℕ) → Listed A d First (node_count d) c list₀ list → Downward A d First (node_count d) work₀
-      work allowed
-      → Found A d First list₀ work₀ c list work
-  listed_found c list₀ list work₀ work allowed h u = record {
-    answers = h.answers;
-    lists = lists_iff h.lists (λ i. (λ q. q.1, λ a. (started_here A d First va i a, a)));
-    count = h.count;
-    written = h.written;
-    working = record { same_length = u.same_length; fits = u.fits; placed = u.placed; rest = u.rest };
-  }
-
   -- a node's turn in the answer list
   pub listed_noted : (whole output i c r : ℕ) (before list list' : List ℕ) → A.output ≡ output → Marks whole (PlacedAt A d First i) → Noted whole output i c
       list r list' → c < length before

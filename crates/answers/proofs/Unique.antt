@@ -1,9 +1,9 @@
 -- No second count, answer list or working list fits the Answers call. Assumes nothing.
 use Rattle.tables.proofs.Kit.{ℕ, ◌+◌, ◌*◌, ◌/◌, ◌%◌, ◌<◌, ◌≡◌, sym, ap, ap₂, ◌∙◌, subst, List, ◌++◌}
-use Rattle.tables.proofs.Kit.{arith, dec_lt, ℕ_discrete, length, get_or, drop, ext_get_or}
+use Rattle.tables.proofs.Kit.{arith, dec_lt, ℕ_discrete, length, get_or, drop, ext_get_or, Result}
 use Rattle.tables.specs.{Document.{Document, node_count}, Pattern.{Shape, shape_of}}
-use Rattle.tables.specs.{Refusal.{Check, CountedBy}, declared.Pattern.Pattern, declared.Counted.Counted}
-use Rattle.tables.proofs.{Marks.marks_unique, Outcomes.counted_both, Refusals.counted_unique}
+use Rattle.tables.specs.{Refusal.{Check, Decided}, declared.{Pattern.Pattern, Refusal.Refusal}}
+use Rattle.tables.proofs.{Marks.marks_unique, Outcomes.decided_both, Refusals.decided_unique}
 use Rattle.placing.specs.Answer.{Begins, Started, In}
 use Rattle.placing.proofs.Listing.{lists_unique}
 use Rattle.answers.specs.{Working.{FitsAt, PlacedAt, Working}, Answers.{Found, answer_checks, started_checks, FindsAnswers, FindsStarted}}
@@ -37,20 +37,20 @@ module _ (A : Shape) (d : Document) (First : ℕ → Type 0) where
   )
 
   -- whatever is checked first, one count and one content of each list fit
-  pub one_found : (cs : List Check) (list₀ work₀ : List ℕ) (r q : Counted) (list work list' work' : List ℕ)
-      → CountedBy cs r (λ c. Found A d First list₀ work₀ c list work) ((list ≡ list₀) × (work ≡ work₀))
-      → CountedBy cs q (λ c. Found A d First list₀ work₀ c list' work') ((list' ≡ list₀) × (work' ≡ work₀))
+  pub one_found : (cs : List Check) (list₀ work₀ : List ℕ) (r q : Result ℕ Refusal) (list work list' work' : List ℕ)
+      → Decided cs r (λ c. Found A d First list₀ work₀ c list work) ((list ≡ list₀) × (work ≡ work₀))
+      → Decided cs q (λ c. Found A d First list₀ work₀ c list' work') ((list' ≡ list₀) × (work' ≡ work₀))
       → (r ≡ q) × (list ≡ list') × (work ≡ work')
   one_found cs list₀ work₀ r q list work list' work' h k =
-      let l = counted_both cs r q (λ c e x y. found_lists list₀ work₀ c e list work list' work' x y) (λ x y. (x.0 ∙ sym y.0, x.1 ∙ sym y.1)) h k in
-      (counted_unique cs r q _ _ _ _ (λ c e x y. found_count list₀ work₀ c e list work list' work' x y) h k, l.0, l.1)
+      let l = decided_both cs r q (λ c e x y. found_lists list₀ work₀ c e list work list' work' x y) (λ x y. (x.0 ∙ sym y.0, x.1 ∙ sym y.1)) h k in
+      (decided_unique cs r q _ _ _ _ (λ c e x y. found_count list₀ work₀ c e list work list' work' x y) h k, l.0, l.1)
 
-pub finds_answers_unique : (p : Pattern) (d : Document) (list₀ work₀ : List ℕ) (r q : Counted) (list work list' work' : List ℕ)
+pub finds_answers_unique : (p : Pattern) (d : Document) (list₀ work₀ : List ℕ) (r q : Result ℕ Refusal) (list work list' work' : List ℕ)
     → FindsAnswers p d list₀ work₀ r list work → FindsAnswers p d list₀ work₀ q list' work' → (r ≡ q) × (list ≡ list') × (work ≡ work')
 finds_answers_unique p d list₀ work₀ r q list work list' work' h k =
     one_found (shape_of p) d (Begins (shape_of p)) (answer_checks p d (length list₀) (length work₀)) list₀ work₀ r q list work list' work' h k
 
-pub finds_started_unique : (p : Pattern) (d : Document) (starts list₀ work₀ : List ℕ) (r q : Counted) (list work list' work' : List ℕ)
+pub finds_started_unique : (p : Pattern) (d : Document) (starts list₀ work₀ : List ℕ) (r q : Result ℕ Refusal) (list work list' work' : List ℕ)
     → FindsStarted p d starts list₀ work₀ r list work → FindsStarted p d starts list₀ work₀ q list' work' → (r ≡ q) × (list ≡ list') × (work ≡ work')
 finds_started_unique p d starts list₀ work₀ r q list work list' work' h k =
     one_found (shape_of p) d (In starts) (started_checks p d starts (length list₀) (length work₀)) list₀ work₀ r q list work list' work' h k

@@ -6,12 +6,12 @@
 --   FindsAnswers   what the call answers
 --   FindsStarted   what the started form answers
 -- Assumes nothing.
-use Rattle.std.specs.Prelude.{ℕ, ◌*◌, ◌≤◌, ◌≡◌, List, [], ◌∷◌, ◌++◌, length, drop}
+use Rattle.std.specs.Prelude.{ℕ, ◌*◌, ◌≤◌, ◌≡◌, List, [], ◌∷◌, ◌++◌, length, drop, Result}
 use Rattle.tables.specs.Document.{Document, node_count, ValidDocument}
 use Rattle.tables.specs.Pattern.{Shape, shape_of, ValidPattern}
-use Rattle.tables.specs.Refusal.{Check, CountedBy}
+use Rattle.tables.specs.Refusal.{Check, Decided}
 use Rattle.tables.specs.declared.Pattern.{Pattern}
-use Rattle.tables.specs.declared.Counted.{Counted}
+use Rattle.tables.specs.declared.Refusal.{Refusal}
 use Rattle.placing.specs.Answer.{Begins, Started, In, Lists, StartList}
 use Rattle.answers.specs.Working.{Working}
 
@@ -39,13 +39,13 @@ started_checks p d starts a w =
     ∷ record { asks = ((shape_of p).axis 0 ≡ 0) × StartList d starts; gives = 6 } ∷ record { asks = HasRoom d a w; gives = 5 } ∷ []
 
 -- what the call answers: a count with both lists as `Found` says, or a refusal with both lists as they were
-abbrev pub FindsAnswers : Pattern → Document → List ℕ → List ℕ → Counted → List ℕ → List ℕ → Type 0
+abbrev pub FindsAnswers : Pattern → Document → List ℕ → List ℕ → Result ℕ Refusal → List ℕ → List ℕ → Type 0
 FindsAnswers p d list₀ work₀ r list work =
-    CountedBy (answer_checks p d (length list₀) (length work₀)) r
+    Decided (answer_checks p d (length list₀) (length work₀)) r
     (λ c. Found (shape_of p) d (Begins (shape_of p)) list₀ work₀ c list work) ((list ≡ list₀) × (work ≡ work₀))
 
 -- what the started form answers: step 0 goes to any start node
-abbrev pub FindsStarted : Pattern → Document → List ℕ → List ℕ → List ℕ → Counted → List ℕ → List ℕ → Type 0
+abbrev pub FindsStarted : Pattern → Document → List ℕ → List ℕ → List ℕ → Result ℕ Refusal → List ℕ → List ℕ → Type 0
 FindsStarted p d starts list₀ work₀ r list work =
-    CountedBy (started_checks p d starts (length list₀) (length work₀)) r
+    Decided (started_checks p d starts (length list₀) (length work₀)) r
     (λ c. Found (shape_of p) d (In starts) list₀ work₀ c list work) ((list ≡ list₀) × (work ≡ work₀))

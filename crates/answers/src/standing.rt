@@ -2,108 +2,99 @@
 // answers.
 ghost use Rattle.std.specs.Prelude.{◌≡◌, List, ℕ, ◌+◌, ◌*◌, ◌≤◌, ◌<◌, length, get_or};
 ghost use Rattle.tables.specs.Bits.{bit, Marks};
-ghost use Rattle.tables.specs.Document.{ValidDocument, document_of};
-ghost use Rattle.tables.specs.Pattern.{Shape, shape_of, ValidPattern};
+ghost use Rattle.tables.specs.Document.{of_lists};
+ghost use Rattle.tables.specs.Pattern.{Shape, shape_of};
 ghost use Rattle.plan.specs.Plans.{DownPlan};
 ghost use Rattle.marking.specs.Entries.{Marked};
 ghost use Rattle.answers.specs.Answers.{Found};
 ghost use Rattle.answers.specs.inner.Standing.{Ready, PassedOn, Downward};
 ghost use Rattle.answers.specs.Working.{PlacedAt};
 
-use plan::{Sets, TABLE};
-use tables::{NODES, NodeNo, Pattern, STEPS, StepNo};
+use plan::DownwardPlan;
+use tables::{NODES, NodeNo, RightDocument, RightPattern, StepNo};
 
 // What the parent of node i allows; node 0 has no parent.
-fn above(allowed: &[u64; NODES], parents: &[u16], i: NodeNo) -> u64
-    requires i_in_bounds { i.0 < length parents.now }
-    requires i_bound { 0 < i.0 → get_or parents.now i.0 0 < 2048 }
+fn above(allowed: &[u64; NODES], d: RightDocument<'_>, i: NodeNo) -> u64
+    requires { i.0 < length d.lists.parents.now }
     ensures none { i.0 ≡ 0 → result ≡ 0 }
-    ensures given { 0 < i.0 → result ≡ get_or allowed.now (get_or parents.now i.0 0) 0 }
+    ensures given { 0 < i.0 → result ≡ get_or allowed.now (get_or d.entry.lists.parents.now i.0 0) 0 }
 {
-    let row = i.0 as usize;
-    if row == 0 {
+    if i == NodeNo(0) {
         return 0;
     }
-    let p = NodeNo(parents[row]);
-    let over = p.0 as usize;
-    allowed[over]
+    let p = NodeNo(d.lists.parents[usize::from(i.0)]);
+    allowed[usize::from(p.0)]
 }
 
 // What the children of a node may take, where `whole` stands at the node and `over` was allowed to it.
-fn pass_on(table: &[u64; TABLE], sets: Sets, whole: u64, over: u64) -> u64
-    ensures { (A : Shape) → DownPlan A table.now sets → ((s : ℕ) → bit whole s ≡ 1 → s < A.tree.size) → Marks result
+// kept: that the plan is A's stands in the promise, here and below. `none` has no pattern yet and `fill` gives one, so a ghost field would be an option that
+// each promise has to take apart.
+fn pass_on(plan: &DownwardPlan, whole: u64, over: u64) -> u64
+    ensures { (A : Shape) → DownPlan A plan.now → ((s : ℕ) → bit whole s ≡ 1 → s < A.tree.size) → Marks result
         (PassedOn A whole over) }
 {
-    plan::led(table, sets, whole) | (over & sets.descendant)
+    plan.led(whole) | (over & plan.sets.descendant)
 }
 
 // The turn of node i in the second pass: the steps that stand there in a whole placement.
 fn place_turn(
-    table: &[u64; TABLE],
-    sets: Sets,
-    parents: &[u16],
+    plan: &DownwardPlan,
+    d: RightDocument<'_>,
     i: NodeNo,
     work: &mut [u64],
     allowed: &mut [u64; NODES],
 ) -> u64
-    requires i_in_bounds { (i.0 < length parents.now) × (i.0 < 2048) × (2 * i.0 + 1 < length work.old) × (length allowed.old ≡ 2048) }
-    requires i_bound { 0 < i.0 → get_or parents.now i.0 0 < i.0 }
-    ensures sizes { (length work.new ≡ length work.old) × (length allowed.new ≡ length allowed.old) }
-    ensures turn { (A : Shape) (labels before : List ℕ) → ValidDocument (document_of parents.now labels) → DownPlan A
-        table.now sets → Downward A (document_of parents.now labels) (Marked before) i.0 before work.old
-        allowed.old → Downward A (document_of parents.now labels) (Marked before) (i.0 + 1) before work.new
-        allowed.new × Marks result (PlacedAt A (document_of parents.now labels) (Marked before) i.0) }
+    requires { (i.0 < length d.lists.parents.now) × (2 * i.0 + 1 < length work.old) }
+    ensures { (A : Shape) (before : List ℕ) → DownPlan A plan.now → Downward A (of_lists d.entry.lists) (Marked before)
+        i.0 before work.old allowed.old → Downward A (of_lists d.entry.lists) (Marked before) (i.0 + 1) before
+        work.new allowed.new × Marks result (PlacedAt A (of_lists d.entry.lists) (Marked before) i.0) }
 {
-    let over = above(allowed, parents, i);
-    let row = i.0 as usize;
+    let over = above(allowed, d, i);
+    let row = usize::from(i.0);
     let whole = work[2 * row] & (over | work[2 * row + 1]);
     work[2 * row + 1] = whole;
-    allowed[row] = pass_on(table, sets, whole, over);
+    allowed[row] = pass_on(plan, whole, over);
     whole
 }
 
-// All turns of the second pass, with the table of child steps of the pattern whose output step is `output`.
+// All turns of the second pass, with the plan of the pattern whose output step is `output`.
 fn place_turns(
-    table: &[u64; TABLE],
-    sets: Sets,
+    plan: &DownwardPlan,
+    d: RightDocument<'_>,
     output: StepNo,
-    parents: &[u16],
     work: &mut [u64],
     list: &mut [u16],
 ) -> usize
-    requires output_bound { (output.0 < 64) × (length parents.now ≤ 2048) × (2 * length parents.now ≤ length work.old)
-        × (length parents.now ≤ length list.old) }
-    requires by_index { (i : ℕ) → 0 < i → i < length parents.now → get_or parents.now i 0 < i }
-    ensures { (A : Shape) (labels : List ℕ) → ValidDocument (document_of parents.now labels) → DownPlan A table.now sets →
-        A.output ≡ output.0 → Ready A (document_of parents.now labels) work.old → Found A
-        (document_of parents.now labels) (Marked work.old) list.old work.old result
-        list.new work.new }
+    requires output { output.0 < 64 }
+    requires room { (length d.lists.parents.now ≤ length list.old) × (2 * length d.lists.parents.now ≤ length work.old) }
+    ensures { (A : Shape) → DownPlan A plan.now → A.output ≡ output.0 → Ready A (of_lists d.entry.lists) work.old
+        → Found A (of_lists d.entry.lists) (Marked work.old) list.old work.old result list.new
+        work.new }
 {
-    let mut allowed = [0u64; NODES];
-    let n = parents.len() as u16;
+    let mut allowed = [0; NODES];
+    let n = d.lists.parents.len() as u16;
     let mut c = 0;
+    // kept: the counter is what a turn takes, the node's number, and reads nothing here
     for i in 0..n {
         let node = NodeNo(i);
-        let whole = place_turn(table, sets, parents, node, work, &mut allowed);
+        let whole = place_turn(plan, d, node, work, &mut allowed);
         c = marking::note(list, c, node, whole, output);
     }
     c
 }
 
 // The second pass: which steps stand at each node in a whole placement, and the answers. A second entry of 1 marks a start node.
-pub(crate) fn place_nodes(p: Pattern, parents: &[u16], work: &mut [u64], list: &mut [u16]) -> usize
-    requires valid_pattern { ValidPattern p }
-    requires parents_len_bound { (length parents.now ≤ 2048) × (2 * length parents.now ≤ length work.old) × (length parents.now ≤ length list.old) }
-    requires by_index { (i : ℕ) → 0 < i → i < length parents.now → get_or parents.now i 0 < i }
-    ensures { (labels : List ℕ) → ValidDocument (document_of parents.now labels) → Ready (shape_of p)
-        (document_of parents.now labels)
-        work.old → Found (shape_of p) (document_of parents.now labels) (Marked work.old) list.old
-        work.old result list.new work.new }
+pub(crate) fn place_nodes(
+    p: RightPattern<'_>,
+    d: RightDocument<'_>,
+    work: &mut [u64],
+    list: &mut [u16],
+) -> usize
+    requires { (length d.lists.parents.now ≤ length list.old) × (2 * length d.lists.parents.now ≤ length work.old) }
+    ensures { Ready (shape_of p.entry.table.now) (of_lists d.entry.lists) work.old → Found (shape_of p.entry.table.now)
+        (of_lists d.entry.lists) (Marked work.old) list.old work.old result list.new work.new }
 {
-    let mut down = [0u64; STEPS];
-    let mut up = [0u64; STEPS];
-    let sets = plan::gather(p, &mut down, &mut up);
-    let mut table = [0u64; TABLE];
-    plan::spread(&down, p.count, &mut table);
-    place_turns(&table, sets, p.output, parents, work, list)
+    let mut plan = DownwardPlan::none();
+    plan.fill(p);
+    place_turns(&plan, d, p.table.output, work, list)
 }

@@ -3,14 +3,16 @@
 
 #![tactic(auto)]
 
-use tables::Counted;
+use arrayvec::ArrayVec;
+use std::io;
+use std::io::Read;
 
-// Valid input has at most 8,715 bytes; one byte more shows that there are more.
-fn main() {
-    let mut input = [0u8; 8716];
-    let mut text = [0u8; 32768];
-    let n = io::read_full(0, &mut input);
-    if let Counted::Count(c) = asking::reply(&input[..n], &mut text) {
-        io::write_all(1, &text[..c]);
+// Valid input has at most 8,715 bytes; one byte more shows that there are more. A read that fails ends the input, and a write that fails is passed over.
+fn main(rt: HostRuntime) {
+    let mut input = ArrayVec::<u8, 8716>::new();
+    let mut text = [0; 32768];
+    let _ = io::copy(&mut rt.stdin().take(8716), &mut input);
+    if let Ok(n) = asking::reply(&input, &mut text) {
+        let _ = rt.write_all(&text[..n]);
     }
 }

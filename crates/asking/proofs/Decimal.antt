@@ -1,6 +1,8 @@
 -- Decimal digits: how a number's digits follow from those of its tenth part, how many there are, and that reading them back gives the number. Assumes nothing.
-use Rattle.tables.proofs.Kit.{ℕ, zero, suc, ◌+◌, ◌*◌, ◌-◌, ◌/◌, ◌%◌, ◌≤◌, ◌<◌, ◌≡◌, refl, sym, ap, ◌∙◌}
+use Rattle.tables.proofs.Kit.{ℕ, zero, suc, ◌+◌, ◌*◌, ◌-◌, ◌/◌, ◌%◌, ◌^◌, ◌≤◌, ◌<◌, ◌≡◌, refl, sym, ap, ◌∙◌}
 use Rattle.tables.proofs.Kit.{List, [], ◌∷◌, ◌++◌, arith, dec_lt, length, length-append, lt-ltb, le-ltb}
+use Rattle.std.specs.Fmt.{decimal as printed}
+use Rattle.std.proofs.lemmas.Fmt.{decimal_from_appends, length-decimal-le_succ}
 use Rattle.asking.specs.Text.{digits, decimal}
 
 -- one digit
@@ -57,6 +59,11 @@ length_4 = longer 1000 3 (longer 100 2 (longer 10 1 length_1 (omega arith)) (ome
 -- a 16-bit number has five at most
 pub length_5 : (n : ℕ) → n < 65536 → length (decimal n) ≤ 5
 length_5 n l = longer 10000 4 length_4 (omega arith) n (omega arith)
+
+-- the digits that a number prints as
+pub decimal_printed : (n : ℕ) → n < 2 ^ 64 → decimal n ≡ printed n
+unfolding decimal
+decimal_printed n l = decimal_from_appends digits (record { one = digits_small; more = digits_large }) (suc n) n l (omega (arith, length-decimal-le_succ n l))
 
 -- the number that digits stand for, read after those of m
 unfoldable pub read_from : ℕ → List ℕ → ℕ

@@ -1,82 +1,70 @@
--- The outcomes of the reply, from what the calls on its packets answered: each is one text of `Replies`, printed at the front. Assumes nothing.
-use Rattle.tables.proofs.Kit.{ℕ, ◌≤◌, ◌<◌, ◌≡◌, refl, sym, ap, ◌∙◌, subst, List, length, take, replicate, arith}
-use Rattle.tables.specs.{Document.{Document, ValidDocument}, Pattern.{zero_pattern, ValidPattern}, Refusal.{number, Passes, Refuses, Decided}}
-use Rattle.tables.specs.{declared.Pattern.Pattern, declared.Checked.Checked, declared.Counted.Counted, declared.Refusal.Refusal}
-use Rattle.tables.specs.declared.Checked.TheVariants as checked
-use Rattle.tables.specs.declared.Counted.TheVariants as counted
-use Rattle.packets.specs.{PatternPacket.{packet_pattern, pattern_checks}, DocumentPacket.{ReadsDocument, document_rules}}
-use Rattle.packets.proofs.Views.{read_of, read_document_of}
-use Rattle.asking.specs.{Text.{document_word, view_word, query_word, input_word, refused_line}, Parts.{packet_at, next_at, document_part}}
-use Rattle.asking.specs.{Replies.{document_in, document, view, query, extra, answered, Printed}, inner.Writing.Wrote, inner.Answering.WroteAnswers}
-use Rattle.asking.proofs.{Parts.{first_part, rules_refuse}, Answering.printed}
-
--- reading the pattern packet at byte o answers z, with the pattern p
-abbrev pub ReadAt : List ℕ → ℕ → Checked → Pattern → Type 0
-ReadAt bs o z p = Decided (pattern_checks (packet_at bs o)) z (p ≡ packet_pattern (packet_at bs o)) (p ≡ zero_pattern)
+-- The outcomes of the reply, from what the calls on its packets answered: each is one text of `Replies`. Assumes nothing.
+use Rattle.tables.proofs.Kit.{ℕ, ◌<◌, ◌≡◌, refl, sym, ap, ◌∙◌, subst, List, length, take, replicate, arith, Result, Ok, Err}
+use Rattle.tables.specs.{Document.{ValidDocument, document_of}, Refusal.{number, Passes, Refuses}}
+use Rattle.tables.specs.{declared.Pattern.Pattern, declared.Refusal.Refusal}
+use Rattle.packets.specs.{PatternPacket.{packet_pattern, pattern_checks, ReadsPattern}, DocumentPacket.{ReadsDocument, document_rules}}
+use Rattle.packets.proofs.{Reading.document_fronts, Views.read_document_of}
+use Rattle.asking.specs.{Text.{document_word, view_word, query_word, input_word, refused_line}, Parts.{document_part, view_part, query_part}}
+use Rattle.asking.specs.Replies.{document_in, document, view, query, extra, answered, Replies, Answered}
+use Rattle.asking.specs.{inner.Writing.{Grew, Puts}, declared.text.Text.Text}
+use Rattle.asking.proofs.Parts.{Parted, rest_length, rules_refuse, rules_pass}
 
 -- reading the document packet into two lists of 2,048 entries
-abbrev pub DocumentRead : List ℕ → Counted → List ℕ → List ℕ → Type 0
-DocumentRead bs r ps ls = ReadsDocument (document_part bs) (replicate 2048 0) (replicate 2048 0) r ps ls
+abbrev pub DocumentRead : List ℕ → Result ℕ Refusal → List ℕ → List ℕ → Type 0
+DocumentRead d r ps ls = ReadsDocument d (replicate 2048 0) (replicate 2048 0) r ps ls
 
--- what was read is the document packet
-pub document_read : (bs : List ℕ) (a : ℕ) (r : Counted) (ps ls : List ℕ) → a ≡ next_at bs 0 → ReadsDocument (take a bs) (replicate 2048 0) (replicate 2048 0) r
-    ps ls → DocumentRead bs r ps ls
-document_read bs a r ps ls e h = subst (λ l. ReadsDocument l (replicate 2048 0) (replicate 2048 0) r ps ls) (ap (λ k. take k bs) e ∙ first_part bs) h
+-- one text has been put
+puts : {bs text : List ℕ} {x y : Text} → Replies bs text → Grew x text y → Puts (Replies bs) x y
+puts {bs} {text} h g = record { text = text; holds = h; grew = g }
 
--- a pattern that was read obeys the rules
-pub read_valid : (bs : List ℕ) (o : ℕ) (p : Pattern) → ReadAt bs o checked.Right p → ValidPattern p
-read_valid bs o p h = subst ValidPattern (sym h.1) (read_of (packet_at bs o) h.0).right
-
--- so does a document
-pub rules_valid : (bs : List ℕ) (d : Document) → Passes (document_rules (document_part bs)) → d ≡ document_in bs → ValidDocument d
-rules_valid bs d p e = subst ValidDocument (sym e) (read_document_of (document_part bs) p).right
-
-module _ (bs : List ℕ) where
+module _ {bs d v q t : List ℕ} (w : Parted bs d v q t) where
   -- the document packet is refused
-  pub document_refused : {before : List ℕ} {s : ℕ} {after : List ℕ} (r : Refusal) (ps ls : List ℕ) (k : ℕ) → k ≡ number r → DocumentRead bs
-      (counted.Refused r) ps ls → Wrote before 0 (refused_line k document_word) s after → Printed bs before s after
-  document_refused r ps ls k n h w =
-      printed (document r (rules_refuse (document_part bs) 2048 2048 r (omega arith) (omega arith) h.0) (ap (λ j. refused_line j document_word) n)) w
+  pub document_refused : {x y : Text} {ps ls : List ℕ} (r : Refusal) → DocumentRead d (Err r) ps ls → Grew x (refused_line (number r) document_word) y
+      → Puts (Replies bs) x y
+  document_refused {ps = ps} {ls = ls} r h =
+      let k : DocumentRead (document_part bs) (Err r) ps ls = rw w.document at h in
+      puts (document r (rules_refuse (document_part bs) 2048 2048 r (omega arith) (omega arith) k.0) refl)
 
-  module _ (a : ℕ) (e : a ≡ next_at bs 0) (p : Passes (document_rules (document_part bs))) where
+  -- the document packet is right
+  module _ {n : ℕ} {ps ls : List ℕ} (h : DocumentRead d (Ok n) ps ls) where
+    rules_right : Passes (document_rules (document_part bs))
+    rules_right = rules_pass (document_part bs) 2048 2048 (subst (λ l. DocumentRead l (Ok n) ps ls) w.document h).0
+
+    -- what was read is its document
+    lists_are : document_of (take n ps) (take n ls) ≡ document_in bs
+    lists_are =
+        let k = subst (λ l. DocumentRead l (Ok n) ps ls) w.document h in
+        document_fronts (document_part bs) ps ls _ _ n k.1.0 k.1.1 k.1.2
+
+    -- and obeys the rules
+    pub lists_right : ValidDocument (document_of (take n ps) (take n ls))
+    lists_right = subst ValidDocument (sym lists_are) (read_document_of (document_part bs) rules_right).right
+
     -- the view packet is refused
-    pub view_refused : {before : List ℕ} {s : ℕ} {after : List ℕ} (r : Refusal) (q : Pattern) (k : ℕ) → k ≡ number r → ReadAt bs a (checked.Refused r) q →
-        Wrote before 0 (refused_line k view_word) s after → Printed bs before s after
-    view_refused r q k n h w = printed (view r p (subst (λ o. Refuses (pattern_checks (packet_at bs o)) r) e h.0) (ap (λ j. refused_line j view_word) n)) w
+    pub view_refused : {x y : Text} (r : Refusal) → ReadsPattern v (Err r) → Grew x (refused_line (number r) view_word) y → Puts (Replies bs) x y
+    view_refused r k = puts (view r rules_right (subst (λ l. Refuses (pattern_checks l) r) w.view k.0) refl)
 
-    module _ (U : Pattern) (u : ReadAt bs a checked.Right U) (b : ℕ) (f : b ≡ next_at bs a) where
-      -- where the query packet begins
-      at_query : b ≡ next_at bs (next_at bs 0)
-      at_query = f ∙ ap (next_at bs) e
-
-      -- the view packet is right
-      view_passes : Passes (pattern_checks (packet_at bs (next_at bs 0)))
-      view_passes = subst (λ o. Passes (pattern_checks (packet_at bs o))) e u.0
+    -- the view packet is right
+    module _ {U : Pattern} (u : ReadsPattern v (Ok U)) where
+      view_right : Passes (pattern_checks (view_part bs))
+      view_right = subst (λ l. Passes (pattern_checks l)) w.view u.0
 
       -- the query packet is refused
-      pub query_refused : {before : List ℕ} {s : ℕ} {after : List ℕ} (r : Refusal) (q : Pattern) (k : ℕ) → k ≡ number r → ReadAt bs b (checked.Refused r) q →
-          Wrote before 0 (refused_line k query_word) s after → Printed bs before s after
-      query_refused r q k n h w =
-          printed (query r (p, view_passes) (subst (λ o. Refuses (pattern_checks (packet_at bs o)) r) at_query h.0) (ap (λ j. refused_line j query_word) n)) w
+      pub query_refused : {x y : Text} (r : Refusal) → ReadsPattern q (Err r) → Grew x (refused_line (number r) query_word) y → Puts (Replies bs) x y
+      query_refused r k = puts (query r (rules_right, view_right) (subst (λ l. Refuses (pattern_checks l) r) w.query k.0) refl)
 
-      module _ (Q : Pattern) (q : ReadAt bs b checked.Right Q) (n : ℕ) (g : n ≡ next_at bs b) where
-        -- where the query packet ends
-        at_end : n ≡ next_at bs (next_at bs (next_at bs 0))
-        at_end = g ∙ ap (next_at bs) at_query
+      -- the query packet is right
+      module _ {Q : Pattern} (k : ReadsPattern q (Ok Q)) where
+        query_right : Passes (pattern_checks (query_part bs))
+        query_right = subst (λ l. Passes (pattern_checks l)) w.query k.0
 
-        -- the query packet is right
-        query_passes : Passes (pattern_checks (packet_at bs (next_at bs (next_at bs 0))))
-        query_passes = subst (λ o. Passes (pattern_checks (packet_at bs o))) at_query q.0
+        -- bytes stand past it
+        pub extra_refused : {x y : Text} → 0 < length t → Grew x (refused_line 2 input_word) y → Puts (Replies bs) x y
+        extra_refused l = puts (extra ((rules_right, view_right), query_right) (omega (arith, l, rest_length w)) refl)
 
-        -- bytes stand past the query
-        pub extra_refused : {before : List ℕ} {s : ℕ} {after : List ℕ} → n < length bs → Wrote before 0 (refused_line 2 input_word) s after → Printed bs before
-            s after
-        extra_refused l w = printed (extra ((p, view_passes), query_passes) (omega (arith, at_end, l)) refl) w
-
-        -- all is right
-        pub all_answered : {before : List ℕ} {s : ℕ} {after : List ℕ} (d : Document) → d ≡ document_in bs → length bs ≤ n → WroteAnswers d Q U before s after →
-            Printed bs before s after
-        all_answered d c l w =
-            let v = u.1 ∙ ap (λ o. packet_pattern (packet_at bs o)) e in
-            let z = q.1 ∙ ap (λ o. packet_pattern (packet_at bs o)) at_query in
-            printed (answered ((p, view_passes), query_passes) (omega (arith, at_end, l)) (rw (c, z, v) at w.answered)) w.wrote
+        -- nothing does
+        pub all_answered : {x y : Text} → length t ≡ 0 → Puts (Answered (document_of (take n ps) (take n ls)) Q U) x y → Puts (Replies bs) x y
+        all_answered l p =
+            let a = u.1 ∙ ap packet_pattern w.view in
+            let b = k.1 ∙ ap packet_pattern w.query in
+            puts (answered ((rules_right, view_right), query_right) (omega (arith, l, rest_length w)) (rw (lists_are, b, a) at p.holds)) p.grew

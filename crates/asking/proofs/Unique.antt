@@ -1,8 +1,8 @@
 -- No second text fits an input, so no second count or buffer fits the call. Assumes nothing.
-use Rattle.tables.proofs.Kit.{ℕ, ◌≤◌, ◌≡◌, sym, ap, ap₂, ◌∙◌, subst, List, [], ◌∷◌, ◌++◌, arith, length, drop}
+use Rattle.tables.proofs.Kit.{ℕ, ◌≤◌, ◌≡◌, sym, ap, ap₂, ◌∙◌, subst, List, [], ◌∷◌, ◌++◌, arith, length, drop, Result}
 use Rattle.tables.specs.{Document.Document, Pattern.shape_of, Refusal.{number, Check, Passes, Refuses}, declared.Pattern.Pattern}
-use Rattle.tables.specs.{declared.Counted.Counted, declared.Refusal.Refusal, declared.Refusal.TheVariants.TooLarge}
-use Rattle.tables.proofs.{Outcomes.counted_both, Refusals.{refuses_not_passes, refuses_unique, counted_unique}}
+use Rattle.tables.specs.{declared.Refusal.Refusal, declared.Refusal.TheVariants.TooLarge}
+use Rattle.tables.proofs.{Outcomes.decided_both, Refusals.{refuses_not_passes, refuses_unique, decided_unique}}
 use Rattle.packets.specs.{PatternPacket.pattern_checks, DocumentPacket.document_rules}
 use Rattle.placing.specs.Answer.{Answer, Started, In, Lists}
 use Rattle.placing.proofs.Listing.{lists_unique}
@@ -15,14 +15,14 @@ use Rattle.asking.specs.Replies.{document_in, query_in, view_in, Replies, docume
 -- one third line fits
 third_unique : (d : Document) (Q U : Pattern) (starts s t : List ℕ) → ThirdLine d Q U starts s → ThirdLine d Q U starts t → s ≡ t
 third_unique d Q U starts s t (handed E xs h l e) (handed F ys k m f) =
-    let c : E ≡ F = candidate_unique h.1 k.1 in
+    let c : E ≡ F = candidate_unique h.1.0 k.1.0 in
     e
     ∙ ap (line rewriting_word) (lists_unique (Started (In starts) (shape_of E) d) xs ys l
     (subst (λ G. Lists (Started (In starts) (shape_of G) d) ys) (sym c) m))
     ∙ sym f
-third_unique d Q U starts s t (handed E xs h l e) (none k f) = absurd (k.1 E h.1 h.2)
+third_unique d Q U starts s t (handed E xs h l e) (none k f) = absurd (k.1 E h.1.0 h.1.1)
 third_unique d Q U starts s t (handed E xs h l e) (refused k f) = absurd (refuses_not_passes (rewriting_checks Q U) TooLarge k.0 h.0)
-third_unique d Q U starts s t (none h e) (handed F ys k m f) = absurd (h.1 F k.1 k.2)
+third_unique d Q U starts s t (none h e) (handed F ys k m f) = absurd (h.1 F k.1.0 k.1.1)
 third_unique d Q U starts s t (none h e) (none k f) = e ∙ sym f
 third_unique d Q U starts s t (none h e) (refused k f) = absurd (refuses_not_passes (rewriting_checks Q U) TooLarge k.0 h.0)
 third_unique d Q U starts s t (refused h e) (handed F ys k m f) = absurd (refuses_not_passes (rewriting_checks Q U) TooLarge h.0 k.0)
@@ -96,10 +96,10 @@ module _ (bs : List ℕ) where
       k.written
 
   -- one answer and one buffer fit the call
-  pub reply_unique : (before : List ℕ) (r q : Counted) (a b : List ℕ) → ReplyOf bs before r a → ReplyOf bs before q b → (r ≡ q) × (a ≡ b)
+  pub reply_unique : (before : List ℕ) (r q : Result ℕ Refusal) (a b : List ℕ) → ReplyOf bs before r a → ReplyOf bs before q b → (r ≡ q) × (a ≡ b)
   reply_unique before r q a b h k =
       let cs : List Check = record { asks = 32768 ≤ length before; gives = 5 } ∷ [] in (
-        counted_unique cs r q (λ c. Printed bs before c a) (a ≡ before) (λ c. Printed bs before c b) (b ≡ before)
+        decided_unique cs r q (λ c. Printed bs before c a) (a ≡ before) (λ c. Printed bs before c b) (b ≡ before)
             (λ c e x y. printed_count before c e a b x y) h k,
-        counted_both cs r q (λ c e x y. printed_buffer before c e a b x y) (λ x y. x ∙ sym y) h k,
+        decided_both cs r q (λ c e x y. printed_buffer before c e a b x y) (λ x y. x ∙ sym y) h k,
       )

@@ -1,97 +1,62 @@
--- Laws of the writers: one byte, one text after another, and how long the lines are. Assumes nothing.
-use Rattle.tables.proofs.Kit.{ℕ, zero, suc, ◌+◌, ◌*◌, ◌≤◌, ◌<◌, ◌≡◌, refl, sym, ap, ap₂, ◌∙◌, subst, List, [], ◌∷◌, ◌++◌, append_assoc, append-nil}
-use Rattle.tables.proofs.Kit.{arith, add-zero, add-one, length, get_or, take, drop, set, length-append, length-set, take-append-drop}
-use Rattle.tables.proofs.Kit.{set_split, length-take-le, take-suc, take_all, append_snoc}
+-- Laws of the writers: one text after another, and how long the lines are. Assumes nothing.
+use Rattle.tables.proofs.Kit.{ℕ, zero, suc, ◌+◌, ◌*◌, ◌≤◌, ◌<◌, ◌≡◌, refl, sym, ap, ap₂, ◌∙◌, List, [], ◌∷◌, ◌++◌, append_assoc, append-nil}
+use Rattle.tables.proofs.Kit.{arith, add-one, length, get_or, take, drop, length-append, take-append-drop, length-take-le}
 use Rattle.tables.specs.Column.{blocks}
 use Rattle.tables.proofs.Columns.{blocks_fit, put_block}
-use Rattle.asking.specs.{Text.{item, refused_word, spaced, line, refused_line}, inner.Writing.Wrote}
+use Rattle.asking.specs.{Text.{item, spaced, line}, inner.Writing.{Fits, Grew}, declared.text.Text.Text}
 use Rattle.asking.proofs.Decimal.{length_4}
 
--- nothing is written
-pub wrote_none : (b : List ℕ) (at : ℕ) → Wrote b at [] at b
-wrote_none b at = record {
+-- nothing is added
+pub grew_none : (x : Text) → Grew x [] x
+grew_none x = record {
+  same = refl;
+  kept = refl;
   end = omega arith;
-  is = sym (ap (λ l. l ++ drop at b) (append-nil (take at b)) ∙ take-append-drop at b);
-}
-
--- one byte is stored
-pub wrote_byte : (b : List ℕ) (at x : ℕ) → at < length b → Wrote b at (x ∷ []) (at + 1) (set b at x)
-wrote_byte b at x l = record {
-  end = refl;
-  is = set_split b at x l ∙ sym (append_snoc (take at b) x (drop (suc at) b)) ∙ rw add-one;
+  is = sym (ap (λ l. l ++ drop x.len x.out.now) (append-nil (take x.len x.out.now)) ∙ take-append-drop x.len x.out.now);
 }
 
 -- one text after another
-pub wrote_then : {b : List ℕ} {at : ℕ} {t : List ℕ} {r : ℕ} {m u : List ℕ} {s : ℕ} {a : List ℕ} → at ≤ length b → Wrote b at t r m → Wrote m r u s a → Wrote b
-    at (t ++ u) s a
-wrote_then {b} {at} {t} {r} {m} {u} {s} {a} l w z =
-    let e : length (take at b ++ t) ≡ r = omega (arith, length-append (take at b) t, length-take-le at b l, w.end) in
+pub grew_then : {x : Text} {t : List ℕ} {y : Text} {u : List ℕ} {z : Text} → x.len ≤ length x.out.now → Grew x t y → Grew y u z → Grew x (t ++ u) z
+grew_then {x} {t} {y} {u} {z} l g h =
+    let b = x.out.now in
+    let e : length (take x.len b ++ t) ≡ y.len = omega (arith, length-append (take x.len b) t, length-take-le x.len b l, g.end) in
     record {
-      end = omega (arith, w.end, z.end, length-append t u);
+      same = h.same ∙ g.same;
+      kept = h.kept ∙ g.kept;
+      end = omega (arith, g.end, h.end, length-append t u);
       is =
-          z.is
-          ∙ ap₂ (λ x k. take r x ++ u ++ drop k x) w.is z.end
-          ∙ put_block (take at b ++ t) u b r (length u) e
-          ∙ ap₂ (λ x k. x ++ drop k b) (append_assoc (take at b) t u) (sym z.end);
+          h.is
+          ∙ ap₂ (λ w k. take y.len w ++ u ++ drop k w) g.is h.end
+          ∙ put_block (take x.len b ++ t) u b y.len (length u) e
+          ∙ ap₂ (λ w k. w ++ drop k b) (append_assoc (take x.len b) t u) (sym h.end);
     }
 
--- the first i bytes of a word have been put
-pub record Copied (before : List ℕ) (at : ℕ) (word : List ℕ) (i : ℕ) (out : List ℕ) : Type 0 where
-  pub low : i ≤ length word
-  pub same : length out ≡ length before
-  pub wrote : Wrote before at (take i word) (at + i) out
+-- the first i numbers of a list have been put, each after a space
+abbrev pub Spaced : Text → List ℕ → ℕ → Text → Type 0
+Spaced x list i y = Grew x (blocks (λ k. item (get_or list k 0)) i) y
 
-pub copied_none : (b : List ℕ) (at : ℕ) (w : List ℕ) → Copied b at w 0 b
-copied_none b at w = record { low = omega arith; same = refl; wrote = rw add-zero (wrote_none b at) }
-
-pub copied_next : (b : List ℕ) (at : ℕ) (w : List ℕ) (i : ℕ) (out : List ℕ) → at + length w ≤ length b → i < length w
-    → Copied b at w i out → Copied b at w (i + 1) (set out (at + i) (get_or w i 0))
-copied_next b at w i out l m c =
-    let z : Wrote b at (take i w ++ (get_or w i 0 ∷ [])) (at + i + 1) (set out (at + i) (get_or w i 0)) =
-    wrote_then (omega arith) c.wrote (wrote_byte out (at + i) (get_or w i 0) (omega (arith, c.same))) in
-    let e : at + i + 1 ≡ at + (i + 1) = omega arith in
-    let f : take i w ++ (get_or w i 0 ∷ []) ≡ take (i + 1) w = rw add-one (sym (take-suc w i 0 m)) in
-    record {
-      low = omega arith;
-      same = length-set out (at + i) (get_or w i 0) ∙ c.same;
-      wrote = rw (e, f) at z;
-    }
-
-pub copied_all : (b : List ℕ) (at : ℕ) (w : List ℕ) (i : ℕ) (out : List ℕ) → length w ≤ i → Copied b at w i out → Wrote b at w (at + length w) out
-copied_all b at w i out l c =
-    let e : i ≡ length w = omega (arith, c.low) in
-    rw (take_all i w l) at (subst (λ (k : ℕ). Wrote b at (take i w) (at + k) out) e c.wrote)
-
--- the first i numbers of a list have been put, up to byte `next`
-pub record Spaced (before : List ℕ) (at : ℕ) (list : List ℕ) (i next : ℕ) (out : List ℕ) : Type 0 where
-  pub low : i ≤ length list
-  pub same : length out ≡ length before
-  pub wrote : Wrote before at (blocks (λ k. item (get_or list k 0)) i) next out
-
-pub spaced_none : (b : List ℕ) (at : ℕ) (list : List ℕ) → Spaced b at list 0 at b
+-- none yet
+pub spaced_none : (x : Text) (list : List ℕ) → Spaced x list 0 x
 unfolding blocks
-spaced_none b at list = record { low = omega arith; same = refl; wrote = wrote_none b at }
+spaced_none x list = grew_none x
 
 -- there is room for number i
-pub spaced_room : (list : List ℕ) (i : ℕ) → i < length list → length (blocks (λ k. item (get_or list k 0)) i) + length (item (get_or list i 0)) ≤ length
-    (spaced list)
+pub spaced_room : (x : Text) (list : List ℕ) (i n : ℕ) (y : Text) → Fits x (length (spaced list)) → i < length list → n ≡ get_or list i 0 → Spaced x list i y →
+    Fits y (length (item n))
 unfolding spaced
-spaced_room list i l = blocks_fit (λ k. item (get_or list k 0)) (length list) i l
+spaced_room x list i n y f l e g =
+    omega (arith, blocks_fit (λ k. item (get_or list k 0)) (length list) i l, g.end, g.kept, ap (λ m. length (item m)) e)
 
 -- one number more
-pub spaced_next : (b : List ℕ) (at : ℕ) (list : List ℕ) (i next r : ℕ) (out a : List ℕ) → at ≤ length b → i < length list → length a ≡ length out
-    → Wrote out next (item (get_or list i 0)) r a → Spaced b at list i next out → Spaced b at list (i + 1) r a
+pub spaced_next : (x : Text) (list : List ℕ) (i n : ℕ) (y z : Text) → x.len ≤ length x.out.now → n ≡ get_or list i 0 → Spaced x list i y → Grew y (item n) z →
+    Spaced x list (i + 1) z
 unfolding blocks
-spaced_next b at list i next r out a l m e w c = record {
-  low = omega arith;
-  same = e ∙ c.same;
-  wrote = rw add-one (wrote_then l c.wrote w);
-}
+spaced_next x list i n y z l e g h = rw add-one (grew_then l g (rw e at h))
 
-pub spaced_all : (b : List ℕ) (at : ℕ) (list : List ℕ) (i next : ℕ) (out : List ℕ) → length list ≤ i → Spaced b at list i next out → Wrote b at (spaced list)
-    next out
+-- all of them
+pub spaced_all : (x : Text) (list : List ℕ) (i : ℕ) (y : Text) → i ≡ length list → Spaced x list i y → Grew x (spaced list) y
 unfolding spaced
-spaced_all b at list i next out l c = let e : i ≡ length list = omega (arith, c.low) in rw e at c.wrote
+spaced_all x list i y e g = rw e at g
 
 -- how long numbers below 10,000 are, each after a space
 blocks_short : (f : ℕ → ℕ) (n : ℕ) → ((k : ℕ) → k < n → f k < 10000) → length (blocks (λ k. item (f k)) n) ≤ 5 * n
@@ -116,20 +81,3 @@ line_length w xs =
 pub line_short : (w xs : List ℕ) → length xs ≤ 2048 → ((k : ℕ) → k < length xs → get_or xs k 0 < 10000) → length (line w xs) ≤ length w + 10247
 unfolding spaced
 line_short w xs l h = omega (arith, line_length w xs, blocks_short (λ k. get_or xs k 0) (length xs) h, length_4 (length xs) (omega arith))
-
--- the parts of a refusal's line
-pub refused_length : (k : ℕ) (w : List ℕ) → length (refused_line k w) ≡ 7 + length (item k) + 1 + length w + 1
-unfolding refused_line
-refused_length k w =
-    length-append (refused_word ++ item k ++ (32 ∷ []) ++ w) (10 ∷ [])
-    ∙ omega (
-      arith,
-      length-append (refused_word ++ item k ++ (32 ∷ [])) w,
-      length-append (refused_word ++ item k) (32 ∷ []),
-      length-append refused_word
-          (item k),
-    )
-
--- the line of a refusal, whose number has one digit
-pub refused_short : (k : ℕ) (w : List ℕ) → k < 10 → length (refused_line k w) ≤ length w + 14
-refused_short k w l = omega (arith, refused_length k w, length_4 k (omega arith))

@@ -4,31 +4,29 @@
 --   Replies     the text for an input
 --   ReplyOf     what the call answers and leaves in the buffer
 -- Assumes nothing.
-use Rattle.std.specs.Prelude.{ℕ, ◌≤◌, ◌<◌, ◌≡◌, List, [], ◌∷◌, ◌++◌, length, drop}
+use Rattle.std.specs.Prelude.{ℕ, ◌≤◌, ◌<◌, ◌≡◌, List, [], ◌∷◌, ◌++◌, length, drop, Result, Ok, Err, Some, None}
 use Rattle.tables.specs.Document.{Document}
-use Rattle.tables.specs.Pattern.{shape_of, zero_pattern}
-use Rattle.tables.specs.Refusal.{number, Passes, Refuses, CountedBy}
+use Rattle.tables.specs.Pattern.{shape_of}
+use Rattle.tables.specs.Refusal.{number, Passes, Refuses, Decided}
 use Rattle.tables.specs.declared.Pattern.{Pattern}
-use Rattle.tables.specs.declared.Counted.{Counted}
 use Rattle.tables.specs.declared.Refusal.{Refusal}
 use Rattle.tables.specs.declared.Refusal.TheVariants.{TooLarge}
 use Rattle.packets.specs.PatternPacket.{packet_pattern, pattern_checks}
 use Rattle.packets.specs.DocumentPacket.{packet_document, document_rules}
 use Rattle.placing.specs.Answer.{Answer, Started, In, Lists}
-use Rattle.rewriting.specs.Rewriting.{AnswersRewriting}
-use Rattle.rewriting.specs.declared.Rewriting.TheVariants as rewriting
+use Rattle.rewriting.specs.Rewriting.{Rewrites}
 use Rattle.asking.specs.Text.{view_word, query_word, rewriting_word, document_word, input_word, line, refused_line, none_line}
 use Rattle.asking.specs.Parts.{document_part, view_part, query_part, parts_end}
 
 -- the third line, for the query Q, the view U and the view's answers: the compensation started at them, or none, or the refusal of more than 32 steps
 pub data ThirdLine (d : Document) (Q U : Pattern) (starts text : List ℕ) : Type 0 where
   -- a compensation is handed over, and started at the view's answers
-  handed : (E : Pattern) (xs : List ℕ) → AnswersRewriting Q U rewriting.Handed E → Lists (Started (In starts) (shape_of E) d) xs → text ≡ line rewriting_word xs
+  handed : (E : Pattern) (xs : List ℕ) → Rewrites Q U (Ok (Some E)) → Lists (Started (In starts) (shape_of E) d) xs → text ≡ line rewriting_word xs
       → ThirdLine d Q U starts text
   -- there is no rewriting
-  none : AnswersRewriting Q U rewriting.Nothing zero_pattern → text ≡ none_line → ThirdLine d Q U starts text
+  none : Rewrites Q U (Ok None) → text ≡ none_line → ThirdLine d Q U starts text
   -- the query or the view has more than 32 steps
-  refused : AnswersRewriting Q U (rewriting.Refused TooLarge) zero_pattern → text ≡ refused_line 8 rewriting_word → ThirdLine d Q U starts text
+  refused : Rewrites Q U (Err TooLarge) → text ≡ refused_line 8 rewriting_word → ThirdLine d Q U starts text
 
 -- the answers of the view, those of the query, and the third line
 pub record Answered (d : Document) (Q U : Pattern) (text : List ℕ) : Type 0 where
@@ -82,6 +80,6 @@ pub record Printed (bs before : List ℕ) (c : ℕ) (after : List ℕ) : Type 0 
   pub written : after ≡ text ++ drop c before
 
 -- a buffer of at least 32,768 bytes gets the text; a shorter one is refused and stays as it was
-abbrev pub ReplyOf : List ℕ → List ℕ → Counted → List ℕ → Type 0
+abbrev pub ReplyOf : List ℕ → List ℕ → Result ℕ Refusal → List ℕ → Type 0
 ReplyOf bs before r after =
-    CountedBy (record { asks = 32768 ≤ length before; gives = 5 } ∷ []) r (λ c. Printed bs before c after) (after ≡ before)
+    Decided (record { asks = 32768 ≤ length before; gives = 5 } ∷ []) r (λ c. Printed bs before c after) (after ≡ before)

@@ -1,89 +1,96 @@
-// Writers of the lines that `ask` prints. Each puts a text at byte `at` and answers the byte past it.
-ghost use Rattle.std.specs.Prelude.{◌+◌, ◌≤◌, [], ◌∷◌, ◌++◌, length};
+// The lines that `ask` prints, put one after another at the front of a buffer.
+ghost use Rattle.std.specs.Prelude.{◌+◌, ◌≤◌, ◌≡◌, length};
+ghost use Rattle.tables.specs.Refusal.{number};
 ghost use Rattle.asking.specs.Text.{decimal, item, spaced, line, refused_line};
-ghost use Rattle.asking.specs.inner.Writing.{Wrote};
+ghost use Rattle.asking.specs.inner.Writing.{Begins, Fits, Grew};
 
-// One byte.
-fn put_byte(out: &mut [u8], at: usize, x: u8) -> usize
-    requires { at + 1 ≤ length out.old }
-    ensures { Wrote out.old at (x ∷ []) result out.new }
-{
-    out[at] = x;
-    at + 1
+use tables::Refusal;
+
+// A text that grows: the buffer, and how many bytes of it have been written.
+// kept: a buffer with a length beside it, since `reply` writes to a buffer that it is lent and says what becomes of all its bytes (`Printed`).
+#[derive(Drop)]
+pub(crate) struct Text<'a> {
+    out: &'a mut [u8],
+    len: usize,
 }
 
-// A word.
-pub(crate) fn put_word(out: &mut [u8], at: usize, word: &[u8]) -> usize
-    requires { at + length word.now ≤ length out.old }
-    ensures { Wrote out.old at word.now result out.new }
-{
-    for i in 0..word.len() {
-        out[at + i] = word[i];
+impl<'a> Text<'a> {
+    // No text yet.
+    pub(crate) fn new(out: &'a mut [u8]) -> Text<'a>
+        ensures { Begins out.entry result }
+    {
+        Text { out, len: 0 }
     }
-    at + word.len()
-}
 
-// A number in decimal: the digits before the last, then the last.
-fn put_number(out: &mut [u8], at: usize, n: usize) -> usize
-    requires { at + length (decimal n) ≤ length out.old }
-    ensures { Wrote out.old at (decimal n) result out.new }
-{
-    if n < 10 {
-        put_byte(out, at, 48 + n as u8)
-    } else {
-        let next = put_number(out, at, n / 10);
-        put_byte(out, next, 48 + (n % 10) as u8)
+    // How many bytes the text has.
+    pub(crate) fn len(&self) -> usize
+        ensures { result ≡ self.now.len }
+    {
+        self.len
     }
-}
 
-// A space and a number.
-fn put_item(out: &mut [u8], at: usize, n: usize) -> usize
-    requires { at + length (item n) ≤ length out.old }
-    ensures { Wrote out.old at (item n) result out.new }
-{
-    let next = put_byte(out, at, 32);
-    put_number(out, next, n)
-}
-
-// The numbers of a list, each after a space.
-fn put_list(out: &mut [u8], at: usize, list: &[u16]) -> usize
-    requires { at + length (spaced list.now) ≤ length out.old }
-    ensures { Wrote out.old at (spaced list.now) result out.new }
-{
-    let mut next = at;
-    for i in 0..list.len() {
-        next = put_item(out, next, list[i] as usize);
+    // A word.
+    pub(crate) fn word(&mut self, word: &[u8])
+        requires { Fits self.old (length word.now) }
+        ensures { Grew self.old word.now self.new }
+    {
+        let end = self.len + word.len();
+        self.out[self.len..end].copy_from_slice(word);
+        self.len = end;
     }
-    next
-}
 
-// A word, and a number after a space.
-fn put_named(out: &mut [u8], at: usize, word: &[u8], n: usize) -> usize
-    requires { at + (length word.now + length (item n)) ≤ length out.old }
-    ensures { Wrote out.old at (word.now ++ item n) result out.new }
-{
-    let next = put_word(out, at, word);
-    put_item(out, next, n)
-}
+    // A number in decimal.
+    #[tactic(auto, using(crate::proofs::Decimal::decimal_printed))]
+    fn number(&mut self, n: usize)
+        requires { Fits self.old (length (decimal n)) }
+        ensures { Grew self.old (decimal n) self.new }
+    {
+        let mut digits = itoa::Buffer::new();
+        self.word(digits.format(n).as_bytes());
+    }
 
-// A word's line: how many numbers a list has, and the numbers.
-pub(crate) fn put_line(out: &mut [u8], at: usize, word: &[u8], list: &[u16]) -> usize
-    requires { at + length (line word.now list.now) ≤ length out.old }
-    ensures { Wrote out.old at (line word.now list.now) result out.new }
-{
-    let counted = put_named(out, at, word, list.len());
-    let begun = put_byte(out, counted, 58);
-    let listed = put_list(out, begun, list);
-    put_byte(out, listed, 10)
-}
+    // A space and a number.
+    fn item(&mut self, n: usize)
+        requires { Fits self.old (length (item n)) }
+        ensures { Grew self.old (item n) self.new }
+    {
+        self.word(b" ");
+        self.number(n);
+    }
 
-// The line of a refusal: its number, and the word for what is refused.
-pub(crate) fn put_refused(out: &mut [u8], at: usize, number: usize, word: &[u8]) -> usize
-    requires { at + length (refused_line number word.now) ≤ length out.old }
-    ensures { Wrote out.old at (refused_line number word.now) result out.new }
-{
-    let numbered = put_named(out, at, b"refused", number);
-    let begun = put_byte(out, numbered, 32);
-    let named = put_word(out, begun, word);
-    put_byte(out, named, 10)
+    // The numbers of a list, each after a space.
+    fn list(&mut self, list: &[u16])
+        requires { Fits self.old (length (spaced list.now)) }
+        ensures { Grew self.old (spaced list.now) self.new }
+    {
+        for x in list {
+            self.item(usize::from(*x));
+        }
+    }
+
+    // A word's line: how many numbers a list has, and the numbers.
+    #[tactic(auto, using(crate::proofs::Writing::line_length))]
+    pub(crate) fn line(&mut self, word: &[u8], list: &[u16])
+        requires { Fits self.old (length (line word.now list.now)) }
+        ensures { Grew self.old (line word.now list.now) self.new }
+    {
+        self.word(word);
+        self.item(list.len());
+        self.word(b":");
+        self.list(list);
+        self.word(b"\n");
+    }
+
+    // The line of a refusal: its number, and the word for what is refused.
+    #[tactic(auto, using(crate::proofs::Decimal::length_4))]
+    pub(crate) fn refused(&mut self, r: Refusal, word: &[u8])
+        requires { Fits self.old (length word.now + 14) }
+        ensures { Grew self.old (refused_line (number r) word.now) self.new }
+    {
+        self.word(b"refused");
+        self.item(usize::from(u8::from(r)));
+        self.word(b" ");
+        self.word(word);
+        self.word(b"\n");
+    }
 }

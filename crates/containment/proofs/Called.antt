@@ -1,5 +1,5 @@
 -- What a caller has from the containment call's contract: contained means contained, and apart comes with a document that shows it. Assumes nothing.
-use Rattle.tables.proofs.Kit.{ℕ, ◌≡◌, sym, ap, ◌∙◌, subst, List, arith, take, drop, take_at}
+use Rattle.tables.proofs.Kit.{ℕ, ◌≡◌, sym, ap, ◌∙◌, subst, List, Ok, arith, take, drop, take_at}
 use Rattle.tables.specs.{Document.{Document, ValidDocument, document_of}, Pattern.{shape_of, ValidPattern}, declared.NodeNo.NodeNo, declared.Pattern.Pattern}
 use Rattle.placing.specs.Answer.{Answer}
 use Rattle.containment.specs.{Witness.{witness_of, answer_node}, Containment.{AnswersContainment, DecidesContainment}}
@@ -19,13 +19,13 @@ pub record Shows (A B : Pattern) (d : Document) (i : ℕ) : Type 0 where
 
 module _ (A B : Pattern) (parents₀ labels₀ : List ℕ) where
   -- where it says apart, the lists begin with a document that shows it
-  pub call_apart : (r : ContainmentAnswer) (parents labels : List ℕ) (m : ℕ) (i : NodeNo) → DecidesContainment A B parents₀ labels₀ r parents labels
+  pub call_apart : (r : ContainmentAnswer) (parents labels : List ℕ) (m : ℕ) (i : NodeNo) → DecidesContainment A B parents₀ labels₀ (Ok r) parents labels
       → r.answer ≡ containment.Apart m i → Shows A B (front_of m parents labels) i.0
   unfolding witness_of
   call_apart r parents labels m i h e =
-      let w = subst (λ (a : Containment). AnswersContainment A B parents₀ labels₀ a r.mapping parents labels) e h in
-      let p = w.0 in let va : ValidPattern A = p.0 in
-      let vb : ValidPattern B = p.1.0 in let x = w.1 in
+      let va : ValidPattern A = h.0.0 in
+      let vb : ValidPattern B = h.0.1.0 in
+      let x = (subst (λ (a : Containment). AnswersContainment A B parents₀ labels₀ a r.mapping parents labels) e h.1).0 in
       let n : ℕ = A.count in
       let ps : take m parents ≡ (witness_of (shape_of A) x.label).parents
       = ap (take m) x.parent_list ∙ take_at (witness_of (shape_of A) x.label).parents (drop m parents₀) m

@@ -1,13 +1,12 @@
 -- No second answer fits the containment call, nor that on equality. Assumes nothing.
-use Rattle.tables.proofs.Kit.{ℕ, ◌≡◌, refl, sym, ap, ap₂, ◌∙◌, List, ◌++◌, length, drop}
-use Rattle.tables.specs.{Pattern.shape_of, Refusal.{Passes, Refuses}, declared.Pattern.Pattern}
+use Rattle.tables.proofs.Kit.{ℕ, ◌≡◌, refl, sym, ap, ap₂, ◌∙◌, ◌↔◌, Bool, true, false, T, List, ◌++◌, length, drop, Result}
+use Rattle.tables.specs.{Pattern.shape_of, declared.Pattern.Pattern}
 use Rattle.tables.specs.{declared.StepNo.StepNo, declared.NodeNo.NodeNo, declared.Refusal.Refusal}
-use Rattle.tables.proofs.{Columns.steps_ext, Refusals.{refuses_not_passes, refuses_unique}}
+use Rattle.tables.proofs.{Columns.steps_ext, Outcomes.decided_both, Refusals.decided_unique}
 use Rattle.containment.specs.{Witness.witness_of, Containment.{containment_checks, Within, ApartBy, AnswersContainment, DecidesContainment}}
 use Rattle.containment.specs.{declared.Containment.Containment, declared.ContainmentAnswer.ContainmentAnswer}
-use Rattle.containment.specs.{Equality.{pair_checks, DecidesEquality}, declared.Equality.Equality}
+use Rattle.containment.specs.{Equality.{pair_checks, DecidesEquality}, Mapping.Equal}
 use Rattle.containment.specs.declared.Containment.TheVariants as containment
-use Rattle.containment.specs.declared.Equality.TheVariants as equality
 use Rattle.containment.proofs.{Deciding.least_map_unique, FreshLabel.fresh_unique}
 
 within_unique : (A B : Pattern) (m n : List StepNo) → Within A B m → Within A B n → m ≡ n
@@ -32,45 +31,36 @@ module _ (A B : Pattern) (parents₀ labels₀ parents labels parents' labels' :
         h.label_list ∙ ap₂ (λ d i. d.labels ++ drop i labels₀) p u ∙ sym k.label_list,
       )
 
-  mixed : (r : Refusal) → Refuses (containment_checks A B (length parents₀) (length labels₀)) r → Passes
-      (containment_checks A B (length parents₀) (length labels₀)) → ⊥
-  mixed r h p = refuses_not_passes (containment_checks A B (length parents₀) (length labels₀)) r h p
-
   answers_unique : (a b : Containment) (m n : List StepNo) → AnswersContainment A B parents₀ labels₀ a m parents labels → AnswersContainment A B parents₀
       labels₀ b n parents' labels' → Same a b m n
   unfolding Same
-  answers_unique containment.Contained containment.Contained m n h k = (refl, within_unique A B m n h.1 k.1, h.2 ∙ sym k.2, h.3 ∙ sym k.3)
-  answers_unique containment.Contained (containment.Apart e y) m n h k = absurd (k.1.not_contained h.1.contained)
-  answers_unique containment.Contained (containment.Refused q) m n h k = absurd (mixed q k.0 h.0)
-  answers_unique (containment.Apart c x) containment.Contained m n h k = absurd (h.1.not_contained k.1.contained)
-  answers_unique (containment.Apart c x) (containment.Apart e y) m n h k = apart_unique c e x y m n (h.2 ∙ sym k.2) h.1 k.1
-  answers_unique (containment.Apart c x) (containment.Refused q) m n h k = absurd (mixed q k.0 h.0)
-  answers_unique (containment.Refused r) containment.Contained m n h k = absurd (mixed r h.0 k.0)
-  answers_unique (containment.Refused r) (containment.Apart e y) m n h k = absurd (mixed r h.0 k.0)
-  answers_unique (containment.Refused r) (containment.Refused q) m n h k = (
-    ap containment.Refused (refuses_unique (containment_checks A B (length parents₀) (length labels₀)) r q h.0 k.0),
-    h.1 ∙ sym k.1,
-    h.2 ∙ sym k.2,
-    h.3 ∙ sym k.3,
-  )
+  answers_unique containment.Contained containment.Contained m n h k = (refl, within_unique A B m n h.0 k.0, h.1 ∙ sym k.1, h.2 ∙ sym k.2)
+  answers_unique containment.Contained (containment.Apart e y) m n h k = absurd (k.0.not_contained h.0.contained)
+  answers_unique (containment.Apart c x) containment.Contained m n h k = absurd (h.0.not_contained k.0.contained)
+  answers_unique (containment.Apart c x) (containment.Apart e y) m n h k = apart_unique c e x y m n (h.1 ∙ sym k.1) h.0 k.0
 
 -- two answers to one call are one, and so are the lists that they leave
-pub containment_unique : (A B : Pattern) (parents₀ labels₀ : List ℕ) (r q : ContainmentAnswer) (parents labels parents' labels' : List ℕ)
+pub containment_unique : (A B : Pattern) (parents₀ labels₀ : List ℕ) (r q : Result ContainmentAnswer Refusal) (parents labels parents' labels' : List ℕ)
     → DecidesContainment A B parents₀ labels₀ r parents labels → DecidesContainment A B parents₀ labels₀ q parents' labels' → (r ≡ q) × (parents ≡ parents') ×
     (labels ≡ labels')
 unfolding Same
 containment_unique A B parents₀ labels₀ r q parents labels parents' labels' h k =
-    let s = answers_unique A B parents₀ labels₀ parents labels parents' labels' r.answer q.answer r.mapping q.mapping h k in
-    (ap₂ (λ (a : Containment) (m : List StepNo). record { answer = a; mapping = m }) s.0 s.1, s.2, s.3)
+    let same = λ (a b : ContainmentAnswer). answers_unique A B parents₀ labels₀ parents labels parents' labels' a.answer b.answer a.mapping b.mapping in
+    let cs = containment_checks A B (length parents₀) (length labels₀) in
+    let lists : (parents ≡ parents') × (labels ≡ labels') = decided_both cs r q (λ a b x y. let s = same a b x y in (s.2, s.3))
+    (λ x y. (x.0 ∙ sym y.0, x.1 ∙ sym y.1)) h k in (
+      decided_unique cs r q _ _ _ _ (λ a b x y.
+          let s = same a b x y in ap₂ (λ (c : Containment) (m : List StepNo). record { answer = c; mapping = m }) s.0 s.1) h k,
+      lists.0,
+      lists.1,
+    )
 
 -- two answers on the equality of one pair are one
-pub equality_unique : (A B : Pattern) (r q : Equality) → DecidesEquality A B r → DecidesEquality A B q → r ≡ q
-equality_unique A B equality.Equal equality.Equal h k = refl
-equality_unique A B equality.Equal equality.Different h k = absurd (k.1 h.1)
-equality_unique A B equality.Equal (equality.Refused q) h k = absurd (refuses_not_passes (pair_checks A B) q k h.0)
-equality_unique A B equality.Different equality.Equal h k = absurd (h.1 k.1)
-equality_unique A B equality.Different equality.Different h k = refl
-equality_unique A B equality.Different (equality.Refused q) h k = absurd (refuses_not_passes (pair_checks A B) q k h.0)
-equality_unique A B (equality.Refused r) equality.Equal h k = absurd (refuses_not_passes (pair_checks A B) r h k.0)
-equality_unique A B (equality.Refused r) equality.Different h k = absurd (refuses_not_passes (pair_checks A B) r h k.0)
-equality_unique A B (equality.Refused r) (equality.Refused q) h k = ap equality.Refused (refuses_unique (pair_checks A B) r q h k)
+pub equality_unique : (A B : Pattern) (r q : Result Bool Refusal) → DecidesEquality A B r → DecidesEquality A B q → r ≡ q
+equality_unique A B r q h k = decided_unique (pair_checks A B) r q _ _ _ _ same h k
+  where
+    same : (a b : Bool) → T a ↔ Equal (shape_of A) (shape_of B) → T b ↔ Equal (shape_of A) (shape_of B) → a ≡ b
+    same true true x y = refl
+    same true false x y = absurd (y.1 (x.0 tt))
+    same false true x y = absurd (x.1 (y.0 tt))
+    same false false x y = refl

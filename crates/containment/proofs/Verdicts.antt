@@ -1,13 +1,13 @@
 -- What the table of fits, the smallest mapping and the checks say of containment. Assumes nothing.
-use Rattle.tables.proofs.Kit.{ℕ, ◌<◌, ◌≡◌, refl, sym, subst, inl, inr, ⊎_elim, List, arith, get_or}
-use Rattle.tables.specs.{Bits.bit, Checks.ChecksPattern, Pattern.{Shape, shape_of, ValidShape, ValidPattern}}
-use Rattle.tables.specs.{Refusal.Refuses, declared.Pattern.Pattern, declared.Refusal.Refusal, declared.StepNo.StepNo}
-use Rattle.tables.specs.declared.Checked.TheVariants as checked
+use Rattle.tables.proofs.Kit.{ℕ, ◌<◌, ◌≡◌, refl, sym, subst, inl, ◌↔◌, T, List, arith, get_or}
+use Rattle.std.proofs.Common.{Option, Some, None, is_some}
+use Rattle.tables.specs.{Bits.bit, Pattern.{Shape, shape_of, ValidShape, ValidPattern}}
+use Rattle.tables.specs.{declared.Pattern.Pattern, declared.StepNo.StepNo}
 use Rattle.tables.proofs.{Rules.shape_ordered, Trees.{from_here, from_root, parent_lt}}
-use Rattle.containment.specs.{Mapping.{BeginsIn, Maps, Contained}, Containment.Within, Equality.pair_checks, inner.Results.Chosen}
-use Rattle.mappings.specs.Fits.{FitsIn, FitTable, Picks}
+use Rattle.containment.specs.{Mapping.{BeginsIn, Maps, Contained}, Containment.Within, inner.Results.Chosen}
+use Rattle.mappings.specs.Fits.{FitsIn, FitTable, Picks, picked, nothing}
 use Rattle.containment.proofs.Contained.{contained_iff}
-use Rattle.mappings.proofs.Images.{pick_to, pick_none, pick_found, pick_below}
+use Rattle.mappings.proofs.Images.{pick_to, pick_none, pick_found}
 
 module _ (A B : Shape) (va : ValidShape A) (vb : ValidShape B) where
   -- a step of A at which a step of B fits
@@ -15,10 +15,10 @@ module _ (A B : Shape) (va : ValidShape A) (vb : ValidShape B) where
   fits_here j t h = subst (λ (x : ℕ). x < A.tree.size) h.sends.at (h.sends.takes t (inl refl)).here
 
   -- the step picked by the table is the smallest that may take step 0
-  pub first_picked : (fit : List ℕ) (r : ℕ) → FitTable B A fit
+  pub first_picked : (fit : List ℕ) {r : Option StepNo} → FitTable B A fit
       → Picks (λ j. ((j < A.tree.size) × (B.axis 0 ≡ 0 → (j ≡ 0) × (A.axis 0 ≡ 0))) × (bit (get_or fit j 0) 0 ≡ 1)) r
       → Picks (λ j. BeginsIn B A j × FitsIn B A j 0) r
-  first_picked fit r table p = pick_to (λ j w. (w.0.1, (table j w.0.0).only 0 w.1))
+  first_picked fit table p = pick_to (λ j w. (w.0.1, (table j w.0.0).only 0 w.1))
       (λ j w. ((fits_here j 0 w.1, w.0), (table j (fits_here j 0 w.1)).put 0 w.1))
       p
 
@@ -32,8 +32,8 @@ module _ (A B : Shape) (va : ValidShape A) (vb : ValidShape B) where
   }
 
   -- where no step may take step 0, A is not contained in B
-  pub not_contained : (r : ℕ) → r ≡ 64 → Picks (λ j. BeginsIn B A j × FitsIn B A j 0) r → Contained A B → ⊥
-  not_contained r e p h = let w = (contained_iff A B va vb).0 h in pick_none p e (w.0 0) (w.1.first, maps_fits w.0 w.1)
+  pub not_contained : Picks (λ j. BeginsIn B A j × FitsIn B A j 0) None → Contained A B → ⊥
+  not_contained p h = let w = (contained_iff A B va vb).0 h in pick_none p (w.0 0) (w.1.first, maps_fits w.0 w.1)
 
   -- a step of B that fits with step 0 is sent with all the others
   fits_maps : (j : ℕ) → BeginsIn B A j → FitsIn B A j 0 → (m : ℕ → ℕ) × Maps B A m
@@ -51,8 +51,13 @@ module _ (A B : Shape) (va : ValidShape A) (vb : ValidShape B) where
       )
 
   -- where a step may, it is
-  pub picked_contained : (r : ℕ) → (r ≡ 64 → ⊥) → Picks (λ j. BeginsIn B A j × FitsIn B A j 0) r → Contained A B
-  picked_contained r n p = let w = (pick_found p (pick_below p n)).0 in (contained_iff A B va vb).1 (fits_maps r w.0 w.1)
+  pub picked_contained : (r : StepNo) → Picks (λ j. BeginsIn B A j × FitsIn B A j 0) (Some r) → Contained A B
+  picked_contained r p = let w = (pick_found p).0 in (contained_iff A B va vb).1 (fits_maps r.0 w.0 w.1)
+
+  -- so this tells
+  pub picked_tells : {r : Option StepNo} → Picks (λ j. BeginsIn B A j × FitsIn B A j 0) r → T (is_some r) ↔ Contained A B
+  picked_tells (picked s x h) = (λ t. picked_contained s (picked s x h), λ c. tt)
+  picked_tells (nothing h) = (λ t. absurd t, λ c. not_contained (nothing h) c)
 
   -- and the smallest mapping shows it
   pub chosen_contained : (m : List StepNo) → Chosen B A m → Contained A B
@@ -61,11 +66,3 @@ module _ (A B : Shape) (va : ValidShape A) (vb : ValidShape B) where
 module _ (A B : Pattern) where
   pub within_chosen : ValidPattern A → ValidPattern B → (m : List StepNo) → Chosen (shape_of B) (shape_of A) m → Within A B m
   within_chosen va vb m h = record { contained = chosen_contained (shape_of A) (shape_of B) va vb m h; by = h.by; least = h.least; array = h.array }
-
-  -- a refusal of the first pattern
-  pub first_refused : (r : Refusal) → ChecksPattern A (checked.Refused r) → Refuses (pair_checks A B) r
-  first_refused r h = ⊎_elim inl (λ w. absurd w.1) h.0
-
-  -- a refusal of the second
-  pub second_refused : (r : Refusal) → ValidPattern A → ChecksPattern B (checked.Refused r) → Refuses (pair_checks A B) r
-  second_refused r v h = inr (v, ⊎_elim inl (λ w. absurd w.1) h.0)

@@ -1,6 +1,6 @@
 -- The witness as the code writes it, one step after another. Assumes nothing.
 use Rattle.tables.proofs.Kit.{ℕ, zero, suc, ◌+◌, ◌-◌, ◌≤◌, ◌<◌, ◌≡◌, refl, sym, ap, ◌∙◌, ◌⊎◌, inl, inr, List, [], ◌∷◌, ◌++◌, append_assoc}
-use Rattle.tables.proofs.Kit.{arith, add-one, below_more, get_or-set_same, get_or-set_other, length, get_or, drop, set, length-append, length-drop}
+use Rattle.tables.proofs.Kit.{arith, add-one, below_more, get_or-set_same, get_or-set_other, length, get_or, drop, set, length-append}
 use Rattle.tables.specs.{Column.{blocks, node_no}, Pattern.{Shape, ValidShape}, declared.NodeNo.NodeNo}
 use Rattle.tables.proofs.{Columns.put_next, Rules.shape_ordered, Trees.parent_lt}
 use Rattle.containment.specs.{Witness.{descendants, own_node_of, witness_size, hook, parents_for, labels_for}, inner.Results.StepWrote}
@@ -52,17 +52,6 @@ module _ (A : Shape) (va : ValidShape A) where
   pub own_few : (s : ℕ) → s < A.tree.size → own_node_of A s < 128
   unfolding own_node_of
   own_few s h = omega (arith, descendants_le A (axes va) (suc s) h, va.few)
-
-  -- both lists keep their length
-  pub front_lengths : (l s m : ℕ) (parents₀ labels₀ parents labels : List ℕ) → s ≤ A.tree.size → Front A l s m parents₀ labels₀ parents labels
-      → witness_size A ≤ length parents₀ → witness_size A ≤ length labels₀ → (length parents ≡ length parents₀) × (length labels ≡ length labels₀)
-  front_lengths l s m parents₀ labels₀ parents labels h f room wide =
-      let b = descendants_mono A s A.tree.size h in let e = f.place in
-      let p = parents_length A (axes va) s h in
-      let q = labels_length A l (axes va) s h in (
-        rw f.parent_list (simp (length-append, length-drop) (omega arith)),
-        rw f.label_list (simp (length-append, length-drop) (omega arith)),
-      )
 
   module _ (l s m r : ℕ) (parents₀ labels₀ parents labels parents' labels' : List ℕ) (h : s < A.tree.size)
       (f : Front A l s m parents₀ labels₀ parents labels) (w : StepWrote (A.axis s) (node_no (hook A s)) (A.label s) l m parents labels r parents' labels')

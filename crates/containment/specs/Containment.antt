@@ -5,11 +5,12 @@
 --   AnswersContainment  the answer by its cases
 --   DecidesContainment  what the call answers
 -- Assumes nothing.
-use Rattle.std.specs.Prelude.{ℕ, ◌≤◌, ◌≡◌, List, [], ◌∷◌, ◌++◌, length, drop}
+use Rattle.std.specs.Prelude.{ℕ, ◌≤◌, ◌≡◌, List, [], ◌∷◌, ◌++◌, length, drop, Result}
 use Rattle.tables.specs.Column.{node_no, step_array}
 use Rattle.tables.specs.Pattern.{shape_of, ValidPattern}
-use Rattle.tables.specs.Refusal.{Check, Passes, Refuses}
+use Rattle.tables.specs.Refusal.{Check, Decided}
 use Rattle.tables.specs.declared.Pattern.{Pattern}
+use Rattle.tables.specs.declared.Refusal.{Refusal}
 use Rattle.tables.specs.declared.StepNo.{StepNo}
 use Rattle.tables.specs.declared.NodeNo.{NodeNo}
 use Rattle.containment.specs.Mapping.{LeastMap, Contained}
@@ -42,16 +43,14 @@ pub record ApartBy (A B : Pattern) (parents₀ labels₀ : List ℕ) (nodes : �
   pub parent_list : parents ≡ (witness_of (shape_of A) label).parents ++ drop nodes parents₀
   pub label_list : labels ≡ (witness_of (shape_of A) label).labels ++ drop nodes labels₀
 
--- the answer by its cases; a contained pair and a refusal leave both lists as they were, and the mapping is zero unless contained
+-- the answer by its cases; a contained pair leaves both lists as they were, and the mapping is zero unless contained
 abbrev pub AnswersContainment : Pattern → Pattern → List ℕ → List ℕ → Containment → List StepNo → List ℕ → List ℕ → Type 0
-AnswersContainment A B parents₀ labels₀ containment.Contained mapping parents labels =
-    Passes (containment_checks A B (length parents₀) (length labels₀)) × Within A B mapping × (parents ≡ parents₀) × (labels ≡ labels₀)
+AnswersContainment A B parents₀ labels₀ containment.Contained mapping parents labels = Within A B mapping × (parents ≡ parents₀) × (labels ≡ labels₀)
 AnswersContainment A B parents₀ labels₀ (containment.Apart nodes answer) mapping parents labels =
-    Passes (containment_checks A B (length parents₀) (length labels₀)) × ApartBy A B parents₀ labels₀ nodes answer parents labels
-    × (mapping ≡ step_array (λ t. 0) 0)
-AnswersContainment A B parents₀ labels₀ (containment.Refused r) mapping parents labels =
-    Refuses (containment_checks A B (length parents₀) (length labels₀)) r × (mapping ≡ step_array (λ t. 0) 0) × (parents ≡ parents₀) × (labels ≡ labels₀)
+    ApartBy A B parents₀ labels₀ nodes answer parents labels × (mapping ≡ step_array (λ t. 0) 0)
 
--- what the call answers
-abbrev pub DecidesContainment : Pattern → Pattern → List ℕ → List ℕ → ContainmentAnswer → List ℕ → List ℕ → Type 0
-DecidesContainment A B parents₀ labels₀ r parents labels = AnswersContainment A B parents₀ labels₀ r.answer r.mapping parents labels
+-- what the call answers; a refusal leaves both lists as they were
+abbrev pub DecidesContainment : Pattern → Pattern → List ℕ → List ℕ → Result ContainmentAnswer Refusal → List ℕ → List ℕ → Type 0
+DecidesContainment A B parents₀ labels₀ r parents labels =
+    Decided (containment_checks A B (length parents₀) (length labels₀)) r
+    (λ a. AnswersContainment A B parents₀ labels₀ a.answer a.mapping parents labels) ((parents ≡ parents₀) × (labels ≡ labels₀))

@@ -2,167 +2,122 @@
 
 #![tactic(auto)]
 
-ghost use Rattle.std.specs.Prelude.{ℕ, ◌≤◌, ◌≡◌, ◌⊎◌, ◌↔◌, false, T, get_or};
-ghost use Rattle.tables.specs.Column.{step_array};
-ghost use Rattle.tables.specs.Pattern.{shape_of, ValidPattern};
+ghost use Rattle.std.specs.Prelude.{ℕ, ◌⊎◌, ◌↔◌, false, T, get_or};
+ghost use Rattle.tables.specs.Pattern.{shape_of};
 ghost use Rattle.containment.specs.Mapping.{Equal};
 ghost use Rattle.containment.specs.Containment.{DecidesContainment};
 ghost use Rattle.containment.specs.Equality.{DecidesEquality};
 ghost use Rattle.containment.specs.Witness.{Stands};
-ghost use Rattle.containment.specs.inner.Results.{FreshOr0};
+ghost use Rattle.containment.specs.inner.Results.{FreshOrNone};
 
 mod choosing;
 mod comparing;
 mod witness;
 
-use tables::{Checked, NodeNo, Pattern, Refusal, STEPS, StepNo};
+use tables::{NodeNo, Pattern, Refusal, RightPattern, STEPS, StepNo};
 
-// Contained; or apart: how many nodes the witness has, and which of them is the answer node; or refused.
+// Contained; or apart: how many nodes the witness has, and which of them is the answer node.
 #[derive(Clone, Copy)]
 pub enum Containment {
     Contained,
     Apart { nodes: usize, answer: NodeNo },
-    Refused(Refusal),
 }
 
 // The answer, and beside it the mapping, all zero where the answer is not `Contained`.
+// kept: the mapping beside the enum and not in its case, since a pair apart has a mapping too, of zeros (docs/DECISIONS.md, "Forms").
 #[derive(Clone, Copy)]
 pub struct ContainmentAnswer {
     pub answer: Containment,
     pub mapping: [StepNo; STEPS],
 }
 
-// Whether two patterns have the same answers on every document, or the refusal.
-#[derive(Clone, Copy)]
-pub enum Equality {
-    Equal,
-    Different,
-    Refused(Refusal),
-}
-
-// Marks the labels of a below 256 in a table.
-fn mark_labels(a: Pattern, used: &mut [bool; 256])
-    requires { a.count ≤ 64 }
-    ensures { (k : ℕ) → T (get_or used.new k false) → T (get_or used.old k false) ⊎ Stands (shape_of a) k }
+// Marks the labels of p below 256 in a table.
+fn mark_labels(p: RightPattern<'_>, used: &mut [bool; 256])
+    ensures { (k : ℕ) → T (get_or used.new k false) → T (get_or used.old k false) ⊎ Stands (shape_of p.entry.table.now) k }
 {
-    let n = a.count;
-    for s in 0..n {
-        let l = a.label[s] as usize;
+    for label in &p.table.label[..p.table.count] {
+        let l = usize::from(*label);
+        // kept: a test and a place: `get_mut` tells what the table is after it by the kit's own names only (tried: the proof did not close)
         if l < 256 {
             used[l] = true;
         }
     }
 }
 
-// The smallest label that no step of a or b has; 0 where every label is at some step. Labels that are marked need no search.
-fn fresh(a: Pattern, b: Pattern) -> u16
-    requires { (a.count ≤ 64) × (b.count ≤ 64) }
-    ensures { FreshOr0 (shape_of a) (shape_of b) result }
+// The smallest label that no step of a or b has; none where every label is at some step. Labels that are marked need no search.
+// kept: a loop that counts the label by hand, left by `continue` with a label and `break` with a value (docs/DECISIONS.md, "Forms").
+fn fresh(a: RightPattern<'_>, b: RightPattern<'_>) -> Option<u16>
+    ensures { FreshOrNone (shape_of a.entry.table.now) (shape_of b.entry.table.now) result }
 {
-    let n = a.count;
-    let m = b.count;
     let mut used = [false; 256];
     mark_labels(a, &mut used);
     mark_labels(b, &mut used);
+    let firsts = &a.table.label[..a.table.count];
+    let seconds = &b.table.label[..b.table.count];
     let mut l: u16 = 0;
-    let found = 'labels: loop {
+    'labels: loop {
         if l == 65535 {
-            break 0;
+            break None;
         }
         l += 1;
-        if l < 256 {
-            if used[l as usize] {
+        if l < 256 && used[usize::from(l)] {
+            continue 'labels;
+        }
+        for first in firsts {
+            if *first == l {
                 continue 'labels;
             }
         }
-        let mut s = 0;
-        while s < n {
-            if a.label[s] == l {
+        for second in seconds {
+            if *second == l {
                 continue 'labels;
             }
-            s += 1;
         }
-        let mut t = 0;
-        while t < m {
-            if b.label[t] == l {
-                continue 'labels;
-            }
-            t += 1;
-        }
-        break l;
-    };
-    found
+        break Some(l);
+    }
 }
 
-// Do a and b, which obey the rules, have the same answers on every document? For the crates above: asks for what they have checked.
-pub fn same(a: Pattern, b: Pattern) -> bool
-    requires { ValidPattern a × ValidPattern b }
-    ensures { T result ↔ Equal (shape_of a) (shape_of b) }
+// Do a and b have the same answers on every document? For the crates above: asks for what they have checked.
+pub fn same(a: RightPattern<'_>, b: RightPattern<'_>) -> bool
+    ensures { T result ↔ Equal (shape_of a.entry.table.now) (shape_of b.entry.table.now) }
 {
-    if !comparing::within(a, b) {
-        return false;
-    }
-    comparing::within(b, a)
+    comparing::within(a, b) && comparing::within(b, a)
 }
 
-// Do a and b have the same answers on every document? Equal, where each is contained in the other; or different. Refused by BadPattern if a breaks the rules,
-// then if b does.
-pub fn equal(a: Pattern, b: Pattern) -> Equality
-    ensures { DecidesEquality a b result }
+// Do a and b have the same answers on every document? That is, is each contained in the other? Refused by BadPattern if a breaks the rules, then if b does.
+pub fn equal(a: &Pattern, b: &Pattern) -> Result<bool, Refusal>
+    ensures { DecidesEquality a.now b.now result }
 {
-    if let Checked::Refused(r) = tables::check_pattern(a) {
-        return Equality::Refused(r);
-    }
-    if let Checked::Refused(r) = tables::check_pattern(b) {
-        return Equality::Refused(r);
-    }
-    if !same(a, b) {
-        return Equality::Different;
-    }
-    Equality::Equal
-}
-
-// The answer with no mapping.
-fn beside(answer: Containment) -> ContainmentAnswer
-    ensures { (result.answer ≡ answer) × (result.mapping ≡ step_array (λ t. 0) 0) }
-{
-    ContainmentAnswer {
-        answer: answer,
-        mapping: [StepNo(0); STEPS],
-    }
+    let a = tables::check_pattern(a)?;
+    let b = tables::check_pattern(b)?;
+    Ok(same(a, b))
 }
 
 // The same as `contains`, where a and b obey the rules. For the crates above: asks for what they have checked.
 pub fn contains_right(
-    a: Pattern,
-    b: Pattern,
+    a: RightPattern<'_>,
+    b: RightPattern<'_>,
     parents: &mut [u16],
     labels: &mut [u16],
-) -> ContainmentAnswer
-    requires { ValidPattern a × ValidPattern b }
-    ensures { DecidesContainment a b parents.old labels.old result parents.new labels.new }
+) -> Result<ContainmentAnswer, Refusal>
+    ensures { DecidesContainment a.entry.table.now b.entry.table.now parents.old labels.old result parents.new labels.new }
 {
-    let l = fresh(a, b);
-    if l == 0 {
-        return beside(Containment::Refused(Refusal::NoLabel));
-    }
-    let m = a.count + witness::descendants_before(a, a.count);
+    let label = fresh(a, b).ok_or(Refusal::NoLabel)?;
+    let m = witness::node_count(a);
     if parents.len() < m || labels.len() < m {
-        return beside(Containment::Refused(Refusal::Room));
+        return Err(Refusal::Room);
     }
-    let found = comparing::compare(a, b);
-    if found.there {
-        let mapping = found.mapping;
-        return ContainmentAnswer {
+    if let Some(mapping) = comparing::smallest_mapping(a, b) {
+        return Ok(ContainmentAnswer {
             answer: Containment::Contained,
-            mapping: mapping,
-        };
+            mapping,
+        });
     }
-    let nodes = witness::write_witness(a, l, parents, labels);
-    let node = witness::own_node(a, a.output);
-    beside(Containment::Apart {
-        nodes: nodes,
-        answer: node,
+    let nodes = witness::write_witness(a, label, parents, labels);
+    let answer = witness::own_node(a, a.table.output);
+    Ok(ContainmentAnswer {
+        answer: Containment::Apart { nodes, answer },
+        mapping: [StepNo(0); STEPS],
     })
 }
 
@@ -171,18 +126,14 @@ pub fn contains_right(
 // they were, by BadPattern if a breaks the rules, then if b does; by NoLabel if no label is free for the witness; by Room if a list has fewer entries than
 // the witness has nodes, even where the answer would be contained.
 pub fn contains(
-    a: Pattern,
-    b: Pattern,
+    a: &Pattern,
+    b: &Pattern,
     parents: &mut [u16],
     labels: &mut [u16],
-) -> ContainmentAnswer
-    ensures { DecidesContainment a b parents.old labels.old result parents.new labels.new }
+) -> Result<ContainmentAnswer, Refusal>
+    ensures { DecidesContainment a.now b.now parents.old labels.old result parents.new labels.new }
 {
-    if let Checked::Refused(r) = tables::check_pattern(a) {
-        return beside(Containment::Refused(r));
-    }
-    if let Checked::Refused(r) = tables::check_pattern(b) {
-        return beside(Containment::Refused(r));
-    }
+    let a = tables::check_pattern(a)?;
+    let b = tables::check_pattern(b)?;
     contains_right(a, b, parents, labels)
 }

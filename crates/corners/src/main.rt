@@ -3,237 +3,212 @@
 
 #![tactic(auto)]
 
-use containment::Containment;
-use rewriting::Rewriting;
-use tables::{Checked, Counted, NodeNo, Pattern, Refusal, StepNo};
+ghost use Rattle.std.specs.Prelude.{◌<◌};
+
+use containment::{Containment, ContainmentAnswer};
+use std::{fmt, io};
+use tables::{Lists, Pattern, Refusal, STEPS, StepNo};
 
 // Flight line seven.
-const PARENTS: [u16; 7] = [65535, 0, 1, 1, 3, 0, 5];
+const SEVEN: Lists<'static> = Lists {
+    parents: &[65535, 0, 1, 1, 3, 0, 5],
+    labels: &[1, 2, 5, 3, 4, 2, 3],
+};
 
-const LABELS: [u16; 7] = [1, 2, 5, 3, 4, 2, 3];
+// Numbers, each after a space.
+#[derive(Drop)]
+struct Numbers<'a>(&'a [u16]);
 
-fn wide(x: u16) -> u64 {
-    x as u64
-}
-
-fn wide_byte(x: u8) -> u64 {
-    x as u64
-}
-
-fn say(words: &[u8]) {
-    io::write_all(1, words);
-}
-
-// Words, and a number after them.
-fn tell(words: &[u8], n: u64) {
-    io::write_all(1, words);
-    io::print_decimal(1, n);
-}
-
-fn say_refused(r: Refusal) {
-    tell(b"refused ", wide_byte(tables::refusal_number(r)));
-    say(b"\n");
-}
-
-// A list, each number after a space.
-fn say_list(list: &[u16]) {
-    for i in 0..list.len() {
-        tell(b" ", wide(list[i]));
-    }
-    say(b"\n");
-}
-
-// The first 20 bytes of a buffer in hexadecimal, each after a space.
-fn say_bytes(bytes: &[u8; 260]) {
-    for i in 0..20 {
-        say(b" ");
-        io::print_hex(1, wide_byte(bytes[i]), 2);
+impl fmt::Display for Numbers<'_> {
+    fn fmt<W: fmt::Write>(&self, f: &mut fmt::Formatter<W>) -> fmt::Result {
+        for x in self.0 {
+            write!(f, " {x}")?;
+        }
+        Ok(())
     }
 }
 
-// The last entries of a pattern's table.
-fn say_last(p: Pattern) {
-    tell(b", last entries ", wide_byte(p.parent[63].0));
-    tell(b" ", wide_byte(p.axis[63]));
-    tell(b" ", wide(p.label[63]));
-    say(b"\n");
+// Bytes in hexadecimal, each after a space.
+#[derive(Drop)]
+struct Bytes<'a>(&'a [u8]);
+
+impl fmt::Display for Bytes<'_> {
+    fn fmt<W: fmt::Write>(&self, f: &mut fmt::Formatter<W>) -> fmt::Result {
+        for x in self.0 {
+            write!(f, " {x:02x}")?;
+        }
+        Ok(())
+    }
 }
 
-// A pattern's packet, and the last entries of its table.
-fn say_pattern(p: Pattern) {
-    let mut bytes = [0u8; 260];
-    match packets::write_pattern(p, &mut bytes) {
-        Counted::Refused(r) => say_refused(r),
-        Counted::Count(_) => {
-            say_bytes(&bytes);
-            say_last(p);
+// What a call answers, or the number of the refusal.
+#[derive(Drop)]
+struct Told<T>(Result<T, Refusal>);
+
+impl<T: fmt::Display> fmt::Display for Told<T> {
+    fn fmt<W: fmt::Write>(&self, f: &mut fmt::Formatter<W>) -> fmt::Result {
+        match &self.0 {
+            Ok(answer) => write!(f, "{answer}"),
+            Err(r) => write!(f, "refused {}", u8::from(*r)),
         }
     }
 }
 
-// The pattern of a packet with x in every entry past its steps.
+// A pattern: the first 20 bytes of a buffer that holds its packet, and the last entries of its table.
+#[derive(Drop)]
+struct Shown {
+    packet: [u8; 260],
+    pattern: Pattern,
+}
+
+impl Shown {
+    fn of(p: &Pattern) -> Result<Shown, Refusal> {
+        let mut packet = [0; 260];
+        packets::write_pattern(p, &mut packet)?;
+        Ok(Shown {
+            packet,
+            pattern: *p,
+        })
+    }
+}
+
+impl fmt::Display for Shown {
+    fn fmt<W: fmt::Write>(&self, f: &mut fmt::Formatter<W>) -> fmt::Result {
+        let bytes = Bytes(&self.packet[..20]);
+        let parent = self.pattern.parent[63].0;
+        let axis = self.pattern.axis[63];
+        let label = self.pattern.label[63];
+        write!(f, "{bytes}, last entries {parent} {axis} {label}")
+    }
+}
+
+// The first two images of a mapping, and the last; or how many nodes a witness has, and which of them is the answer.
+#[derive(Drop)]
+struct Verdict(ContainmentAnswer);
+
+impl fmt::Display for Verdict {
+    fn fmt<W: fmt::Write>(&self, f: &mut fmt::Formatter<W>) -> fmt::Result {
+        let mapping = &self.0.mapping;
+        match self.0.answer {
+            Containment::Contained => {
+                write!(
+                    f,
+                    "contained, mapping {} {} to {}",
+                    mapping[0].0, mapping[1].0, mapping[63].0
+                )
+            }
+            Containment::Apart { nodes, answer } => write!(f, "apart {nodes}, node {}", answer.0),
+        }
+    }
+}
+
+// What is asked about, with x in every entry past the steps of each pattern.
+#[derive(Drop)]
+struct Patterns {
+    // //strip//frame
+    frames: Pattern,
+    // //strip[control]//frame
+    controlled: Pattern,
+    // //strip//frame[pose]
+    posed: Pattern,
+    // frame[pose], to be started at a frame
+    pose: Pattern,
+}
+
+impl Patterns {
+    fn filled(x: u8) -> Patterns {
+        Patterns {
+            frames: filled(b"\x01\x00\x09\x01\xFF\x01\x00\x02\x00\x01\x00\x03", x),
+            controlled: filled(
+                b"\x01\x00\x0D\x02\xFF\x01\x00\x02\x00\x00\x00\x05\x00\x01\x00\x03",
+                x,
+            ),
+            posed: filled(
+                b"\x01\x00\x0D\x01\xFF\x01\x00\x02\x00\x01\x00\x03\x01\x00\x00\x04",
+                x,
+            ),
+            pose: filled(b"\x01\x00\x09\x00\xFF\x00\x00\x03\x00\x00\x00\x04", x),
+        }
+    }
+}
+
+// The pattern of a packet, or that of no steps where the packet is refused, with x in every entry past its steps.
 fn filled(packet: &[u8], x: u8) -> Pattern {
-    let read = packets::read_pattern(packet);
-    let mut p = read.pattern;
-    let n = p.count;
-    for s in 0..64 {
-        if n <= s {
-            p.parent[s] = StepNo(x);
-            p.axis[s] = x;
-            p.label[s] = x as u16;
-        }
-    }
+    let mut p = packets::read_pattern(packet).unwrap_or(tables::no_pattern());
+    let n = p.count.min(STEPS);
+    p.parent[n..].fill(StepNo(x));
+    p.axis[n..].fill(x);
+    p.label[n..].fill(u16::from(x));
     p
 }
 
-// //strip//frame
-fn frames(x: u8) -> Pattern {
-    filled(b"\x01\x00\x09\x01\xFF\x01\x00\x02\x00\x01\x00\x03", x)
+// The answers of a pattern on flight line seven.
+fn answer(rt: &impl Print, p: &Pattern) -> io::Result<()> {
+    let mut list = [9; 7];
+    let mut work = [0; 14];
+    let count = answers::answers(p, SEVEN, &mut list, &mut work);
+    println!(rt; "answers{}", Told(count.map(|_| Numbers(&list))))
 }
 
-// //strip[control]//frame
-fn controlled(x: u8) -> Pattern {
-    filled(
-        b"\x01\x00\x0D\x02\xFF\x01\x00\x02\x00\x00\x00\x05\x00\x01\x00\x03",
-        x,
-    )
+// Those of a pattern that is started at nodes 3 and 6.
+fn start(rt: &impl Print, p: &Pattern) -> io::Result<()> {
+    let mut list = [9; 7];
+    let mut work = [0; 14];
+    let count = answers::started(p, SEVEN, &[3, 6], &mut list, &mut work);
+    println!(rt; "started{}", Told(count.map(|_| Numbers(&list))))
 }
 
-// //strip//frame[pose]
-fn posed(x: u8) -> Pattern {
-    filled(
-        b"\x01\x00\x0D\x01\xFF\x01\x00\x02\x00\x01\x00\x03\x01\x00\x00\x04",
-        x,
-    )
+fn join(v: &Pattern, e: &Pattern) -> Result<Shown, Refusal> {
+    Shown::of(&joining::join(v, e)?)
 }
 
-// frame[pose], to be started at a frame
-fn pose(x: u8) -> Pattern {
-    filled(b"\x01\x00\x09\x00\xFF\x00\x00\x03\x00\x00\x00\x04", x)
+// The compensation for a query by a view.
+fn rewrite(rt: &impl Print, q: &Pattern, v: &Pattern) -> io::Result<()> {
+    let handed = match rewriting::rewrite(q, v) {
+        Ok(None) => return println!(rt; "handed none"),
+        Ok(Some(e)) => Shown::of(&e),
+        Err(r) => Err(r),
+    };
+    println!(rt; "handed{}", Told(handed))
 }
 
-// The answers of //strip//frame on flight line seven.
-fn answer(x: u8) {
-    let mut list = [9u16; 7];
-    let mut work = [0u64; 14];
-    say(b"answers");
-    match answers::answers(frames(x), &PARENTS, &LABELS, &mut list, &mut work) {
-        Counted::Refused(r) => say_refused(r),
-        Counted::Count(_) => say_list(&list),
+// Is one pattern contained in another, with lists of M and N entries? Both are printed as they are left.
+fn contain<const M: usize, const N: usize>(
+    rt: &impl Print,
+    a: &Pattern,
+    b: &Pattern,
+) -> io::Result<()>
+    requires { (M < 64) × (N < 64) }
+{
+    let mut parents = [9; M];
+    let mut labels = [9; N];
+    let answer = containment::contains(a, b, &mut parents, &mut labels);
+    println!(rt; "{}", Told(answer.map(Verdict)))?;
+    println!(rt; "  parents{}", Numbers(&parents))?;
+    println!(rt; "  labels{}", Numbers(&labels))
+}
+
+// The witness of //strip//frame against //strip[control]//frame has four nodes: it needs four entries of each list. The other way round the answer is
+// contained, and both lists stay.
+fn witness(rt: &impl Print, p: &Patterns) -> io::Result<()> {
+    contain::<3, 5>(rt, &p.frames, &p.controlled)?;
+    contain::<5, 3>(rt, &p.frames, &p.controlled)?;
+    contain::<6, 4>(rt, &p.frames, &p.controlled)?;
+    contain::<5, 6>(rt, &p.controlled, &p.frames)
+}
+
+// Everything.
+fn run(rt: &impl Print, p: &Patterns) -> io::Result<()> {
+    answer(rt, &p.frames)?;
+    start(rt, &p.pose)?;
+    println!(rt; "joined{}", Told(join(&p.frames, &p.pose)))?;
+    rewrite(rt, &p.posed, &p.frames)?;
+    witness(rt, p)
+}
+
+// A write that fails is passed over.
+fn main(rt: HostRuntime) {
+    for x in [0, 7, 255] {
+        let _ = run(&rt, &Patterns::filled(x));
     }
-}
-
-// Those of frame[pose], started at them.
-fn start(x: u8) {
-    let starts = [3u16, 6];
-    let mut list = [9u16; 7];
-    let mut work = [0u64; 14];
-    say(b"started");
-    match answers::started(pose(x), &PARENTS, &LABELS, &starts, &mut list, &mut work) {
-        Counted::Refused(r) => say_refused(r),
-        Counted::Count(_) => say_list(&list),
-    }
-}
-
-// The join of //strip//frame and frame[pose].
-fn join(x: u8) {
-    let joined = joining::join(frames(x), pose(x));
-    let answer = joined.answer;
-    say(b"joined");
-    match answer {
-        Checked::Refused(r) => say_refused(r),
-        Checked::Right => say_pattern(joined.pattern),
-    }
-}
-
-// The compensation for //strip//frame[pose] by //strip//frame.
-fn rewrite(x: u8) {
-    let handed = rewriting::rewrite(posed(x), frames(x));
-    let answer = handed.answer;
-    say(b"handed");
-    match answer {
-        Rewriting::Refused(r) => say_refused(r),
-        Rewriting::Nothing => say(b" none\n"),
-        Rewriting::Handed => say_pattern(handed.pattern),
-    }
-}
-
-// The first two images of a mapping, and the last.
-fn say_mapping(mapping: [StepNo; 64]) {
-    let first = mapping[0];
-    let second = mapping[1];
-    let last = mapping[63];
-    tell(b"contained, mapping ", wide_byte(first.0));
-    tell(b" ", wide_byte(second.0));
-    tell(b" to ", wide_byte(last.0));
-    say(b"\n");
-}
-
-// How many nodes a witness has, and which of them is the answer.
-fn say_apart(nodes: usize, node: NodeNo) {
-    tell(b"apart ", nodes as u64);
-    tell(b", node ", wide(node.0));
-    say(b"\n");
-}
-
-// Two lists as a call has left them.
-fn say_lists(parents: &[u16], labels: &[u16]) {
-    say(b"  parents");
-    say_list(parents);
-    say(b"  labels");
-    say_list(labels);
-}
-
-// Is one pattern contained in another? Both lists are printed as they are left.
-fn contain(a: Pattern, b: Pattern, parents: &mut [u16], labels: &mut [u16]) {
-    let r = containment::contains(a, b, parents, labels);
-    let answer = r.answer;
-    let mapping = r.mapping;
-    match answer {
-        Containment::Refused(k) => say_refused(k),
-        Containment::Contained => say_mapping(mapping),
-        Containment::Apart {
-            nodes,
-            answer: node,
-        } => say_apart(nodes, node),
-    }
-    say_lists(parents, labels);
-}
-
-// The witness of //strip//frame against //strip[control]//frame has four nodes: it needs four entries of each list.
-fn witness(x: u8) {
-    let mut three = [9u16; 3];
-    let mut five = [9u16; 5];
-    contain(frames(x), controlled(x), &mut three, &mut five);
-    contain(frames(x), controlled(x), &mut five, &mut three);
-}
-
-fn unequal(x: u8) {
-    let mut six = [9u16; 6];
-    let mut four = [9u16; 4];
-    contain(frames(x), controlled(x), &mut six, &mut four);
-}
-
-// The other way round the answer is contained, and both lists stay.
-fn no_witness(x: u8) {
-    let mut five = [9u16; 5];
-    let mut six = [9u16; 6];
-    contain(controlled(x), frames(x), &mut five, &mut six);
-}
-
-// Everything, with x past the steps of every pattern.
-fn run(x: u8) {
-    answer(x);
-    start(x);
-    join(x);
-    rewrite(x);
-    witness(x);
-    unequal(x);
-    no_witness(x);
-}
-
-fn main() {
-    run(0);
-    run(7);
-    run(255);
 }

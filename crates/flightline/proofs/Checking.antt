@@ -1,5 +1,5 @@
 -- A test for each kind of fact, and that what passes holds. Assumes nothing.
-use Rattle.tables.proofs.Kit.{ℕ, ◌*◌, ◌≤◌, ◌≡◌, refl, sym, subst, subst₂, Bool, true, ◌&&◌, not, List, [], ◌∷◌, arith, T, ltb, eqb, eqb→eq, ltb→lt, length}
+use Rattle.tables.proofs.Kit.{ℕ, ◌*◌, ◌≤◌, ◌≡◌, sym, subst, subst₂, Bool, true, ◌&&◌, not, List, [], ◌∷◌, arith, T, ltb, eqb, eqb→eq, ltb→lt, length}
 use Rattle.tables.specs.{Column.column, Document.{Document, node_count, ValidDocument}}
 use Rattle.tables.specs.{Pattern.{shape_of, pattern_of, ValidPattern}, Refusal.Passes, declared.Pattern.Pattern}
 use Rattle.tables.proofs.Rules.{is_pattern, tells_pattern, same_pattern, same_pattern_lem, same_document, same_document_lem}
@@ -117,7 +117,7 @@ test_sound d vd (handed Q U C) t =
     let nu : U.count ≤ 32 = omega (arith, ltb→lt U.count 33 s.0) in
     let k = (tells_rewritable Q U (valid Q p.0) (valid U q.0) nq nu).says u.0 in
     let e : C ≡ candidate_of Q U = same_pattern_lem C (candidate_of Q U) u.1 in
-    ((valid Q p.0, (valid U q.0, ((nq, nu), tt))), rw e k.0, rw e k.1)
+    ((valid Q p.0, (valid U q.0, ((nq, nu), tt))), (rw e k.0, rw e k.1))
 test_sound d vd (started C ss xs) t =
     let p = and_both (is_pattern (shape_of C)) _ t in let q = and_both (eqb ((shape_of C).axis 0) 0) _ p.1 in
     let r = and_both (is_start_list d ss) _ q.1 in (
@@ -133,7 +133,7 @@ test_sound d vd (nothing Q U) t =
     let nq : Q.count ≤ 32 = omega (arith, ltb→lt Q.count 33 r.0) in
     let nu : U.count ≤ 32 = omega (arith, ltb→lt U.count 33 s.0) in
     let n = not_rewritable Q U vq vu nq nu ((tells_not (tells_self {b = rewritable Q U})).says s.1) in
-    (((vq, (vu, ((nq, nu), tt))), n, refl), λ E h. let c = (rewriting_exact Q U vq vu nq nu).0 (E, h) in n c.0 c.1 c.2)
+    (((vq, (vu, ((nq, nu), tt))), n), λ E h. let c = (rewriting_exact Q U vq vu nq nu).0 (E, h) in n c.0 c.1 c.2)
 
 -- a table that passes holds, line for line
 pub test_all_lem : (d : Document) → ValidDocument d → (fs : List Fact) → T (test_all d fs) → AllHold d fs

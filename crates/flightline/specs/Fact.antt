@@ -1,18 +1,16 @@
 -- The kinds of fact in the table of flight line seven (docs/RULES.md, "Flight line seven"), and what each says in the terms of the definitions. Assumes
 -- nothing.
-use Rattle.std.specs.Prelude.{ℕ, ◌*◌, ◌≡◌, List, [], ◌∷◌, length, get_or}
+use Rattle.std.specs.Prelude.{ℕ, ◌*◌, ◌≡◌, List, [], ◌∷◌, length, get_or, Ok, Some, None}
 use Rattle.tables.specs.Column.{column}
 use Rattle.tables.specs.Document.{Document, node_count, ValidDocument}
-use Rattle.tables.specs.Pattern.{shape_of, pattern_of, zero_pattern, ValidPattern}
+use Rattle.tables.specs.Pattern.{shape_of, pattern_of, ValidPattern}
 use Rattle.tables.specs.declared.Pattern.{Pattern}
-use Rattle.tables.specs.declared.Checked.TheVariants as checked
 use Rattle.packets.specs.PatternPacket.{pattern_packet, ReadsPattern}
 use Rattle.placing.specs.Answer.{Begins, Answer, Started, In, Lists, StartList}
 use Rattle.answers.specs.Working.{Working}
 use Rattle.containment.specs.Mapping.{LeastMap, Contained, Equal}
 use Rattle.containment.specs.Witness.{Fresh, witness_of, answer_node}
 use Rattle.rewriting.specs.Rewriting.{Serves, Rewrites}
-use Rattle.rewriting.specs.declared.Rewriting.TheVariants as rewriting
 
 -- a pattern by its columns: parents, axes, labels, output step
 unfoldable pub pattern : List ℕ → List ℕ → List ℕ → ℕ → Pattern
@@ -36,7 +34,7 @@ abbrev pub Holds : Document → Fact → Type 0
 -- the answers of A are xs
 Holds d (answers A xs) = ValidPattern A × Lists (Answer (shape_of A) d) xs
 -- the packet of A is bs, and is read as A
-Holds d (packet A bs) = (pattern_packet (shape_of A) ≡ bs) × ReadsPattern bs (record { answer = checked.Right; pattern = A })
+Holds d (packet A bs) = (pattern_packet (shape_of A) ≡ bs) × ReadsPattern bs (Ok A)
 -- the working list of A is ws
 Holds d (working A ws) = ValidPattern A × (length ws ≡ 2 * node_count d) × Working (shape_of A) d (Begins (shape_of A)) ws ws
 -- A is contained in B, and the smallest mapping of B into A is ms
@@ -49,11 +47,11 @@ Holds d (apart A B l w i) =
 -- A and B are equal
 Holds d (equal A B) = ValidPattern A × ValidPattern B × Equal (shape_of A) (shape_of B)
 -- rewriting Q by U hands over C
-Holds d (handed Q U C) = Rewrites Q U (record { answer = rewriting.Handed; pattern = C })
+Holds d (handed Q U C) = Rewrites Q U (Ok (Some C))
 -- C started at the nodes ss has the answers xs
 Holds d (started C ss xs) = ValidPattern C × ((shape_of C).axis 0 ≡ 0) × StartList d ss × Lists (Started (In ss) (shape_of C) d) xs
 -- rewriting Q by U gives nothing, and no compensation serves
-Holds d (nothing Q U) = Rewrites Q U (record { answer = rewriting.Nothing; pattern = zero_pattern }) × ((E : Pattern) → Serves Q U E → ⊥)
+Holds d (nothing Q U) = Rewrites Q U (Ok None) × ((E : Pattern) → Serves Q U E → ⊥)
 
 -- every line holds
 abbrev pub AllHold : Document → List Fact → Type 0

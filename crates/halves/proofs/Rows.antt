@@ -1,17 +1,8 @@
--- Bytes that are written over a list: one block after another, and rows of one width after a header. Assumes nothing.
+-- Bytes that are written over a list: rows of one width after a header. Assumes nothing.
 use Rattle.tables.proofs.Kit.{ℕ, ◌+◌, ◌*◌, ◌≤◌, ◌≡◌, refl, sym, ap, ap₂, ◌∙◌, List, ◌++◌, append-nil, append_assoc}
 use Rattle.tables.proofs.Kit.{mul_comm, mul-zero, mul-suc, add-zero, add_assoc, add-one, length, take, drop, length-append, take-append-drop, length-take-le}
 use Rattle.tables.specs.Column.{blocks}
 use Rattle.tables.proofs.Columns.{blocks_length, put_block}
-
--- a block of v bytes at m and then one of w bytes: one block
-pub put_two : (out mid next ys zs : List ℕ) (m v w : ℕ) → m ≤ length out → length ys ≡ v → mid ≡ take m out ++ ys ++ drop (m + v) out
-    → next ≡ take (m + v) mid ++ zs ++ drop (m + v + w) mid → next ≡ take m out ++ (ys ++ zs) ++ drop (m + v + w) out
-put_two out mid next ys zs m v w l n e f =
-    f
-    ∙ ap (λ x. take (m + v) x ++ zs ++ drop (m + v + w) x) e
-    ∙ put_block (take m out ++ ys) zs out (m + v) w (length-append (take m out) ys ∙ ap₂ (λ x y. x + y) (length-take-le m out l) n)
-    ∙ ap (λ x. x ++ drop (m + v + w) out) (append_assoc (take m out) ys zs)
 
 -- the first k rows of b, of w bytes each, are written over d from byte h on
 pub record RowsPut (b : ℕ → List ℕ) (h w : ℕ) (d : List ℕ) (k : ℕ) (out : List ℕ) : Type 0 where

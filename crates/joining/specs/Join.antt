@@ -8,11 +8,11 @@
 --   Joinable    the pair can be joined
 --   Joins       what joining answers
 -- Assumes nothing.
-use Rattle.std.specs.Prelude.{ℕ, ◌+◌, ◌-◌, ◌≤◌, ◌≡◌, cond, List, [], ◌∷◌, ltb}
-use Rattle.tables.specs.Pattern.{Shape, shape_of, pattern_of, zero_pattern, ValidPattern}
+use Rattle.std.specs.Prelude.{ℕ, ◌+◌, ◌-◌, ◌≤◌, ◌≡◌, cond, List, [], ◌∷◌, ltb, Result}
+use Rattle.tables.specs.Pattern.{Shape, shape_of, pattern_of, ValidPattern}
 use Rattle.tables.specs.Refusal.{Check, Passes, Decided}
 use Rattle.tables.specs.declared.Pattern.{Pattern}
-use Rattle.joining.specs.declared.JoinAnswer.{JoinAnswer}
+use Rattle.tables.specs.declared.Refusal.{Refusal}
 
 -- the number of U's step s in the join, where e steps of E stand past U's output step o
 unfoldable pub renumber : ℕ → ℕ → ℕ → ℕ
@@ -57,6 +57,6 @@ join_checks U E =
 abbrev pub Joinable : Pattern → Pattern → Type 0
 Joinable U E = Passes (join_checks U E)
 
--- joining gives the join, or a refusal with the zero pattern beside it
-abbrev pub Joins : Pattern → Pattern → JoinAnswer → Type 0
-Joins U E r = Decided (join_checks U E) r.answer (r.pattern ≡ join_of U E) (r.pattern ≡ zero_pattern)
+-- joining gives the join, or refuses
+abbrev pub Joins : Pattern → Pattern → Result Pattern Refusal → Type 0
+Joins U E r = Decided (join_checks U E) r (λ p. p ≡ join_of U E) (Unit {0})

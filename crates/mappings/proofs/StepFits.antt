@@ -1,11 +1,11 @@
 -- Which steps of B fit at each step of A: the upward pass over rows with A's steps as rows, in two lists. Assumes nothing.
-use Rattle.tables.proofs.Kit.{ℕ, suc, ◌^◌, ◌<◌, ◌≡◌, refl, sym, ap, ◌∙◌, subst, ◌↔◌, Bool, true, false, List, arith}
-use Rattle.tables.proofs.Kit.{ℕ_discrete, bit_or, T, length, get_or, set, length-set, get_or-set_same, get_or-set_other}
+use Rattle.tables.proofs.Kit.{ℕ, suc, ◌^◌, ◌<◌, ◌≡◌, refl, sym, ap, ◌∙◌, subst, ◌↔◌, Bool, false, List, arith}
+use Rattle.tables.proofs.Kit.{ℕ_discrete, T, length, get_or, set, get_or-set_same, get_or-set_other}
 use Rattle.tables.specs.{Bits.Marks, Tree.From, Pattern.{Shape, rows_of, ValidShape}}
 use Rattle.tables.proofs.{Marks.{marks_to, marks_one, marks_without}, Rules.shape_ordered}
 use Rattle.placing.specs.Placement.{LabelFits, Takes, Goes}
 use Rattle.placing.proofs.Fit.{Task, Able, fit_able, able_fit}
-use Rattle.plan.specs.{Steps.{without, FitsBy}, Rising.{entries, Turned}}
+use Rattle.plan.specs.{Steps.{without, FitsBy}, Rising.{entries}}
 use Rattle.plan.proofs.Rising.{Risen, risen_fits}
 use Rattle.mappings.specs.Fits.{RightIn, FitsIn, FitTable}
 
@@ -56,28 +56,9 @@ module _ (B A : Shape) (vb : ValidShape B) where
 
 -- the output step is taken out where it may not go
 module _ (B : Shape) (l c d x : ℕ) (m : Marks x (FitsBy B (λ t. LabelFits (B.label t) l) c d)) where
-  pub fits_last : (last : Bool) → last ≡ true → Marks x (FitsBy B (RightIn B l last) c d)
-  fits_last last e = marks_to x (FitsBy B (λ t. LabelFits (B.label t) l) c d) (FitsBy B (RightIn B l last) c d)
-      (λ t q. (q.0, (q.1, λ o. rw e tt), q.2)) (λ t q. (q.0, q.1.0, q.2)) m
-
   pub fits_other : (last : Bool) → last ≡ false → Marks (without x (2 ^ B.output)) (FitsBy B (RightIn B l last) c d)
   fits_other last e = marks_to (without x (2 ^ B.output)) (λ t. FitsBy B (λ t. LabelFits (B.label t) l) c d t × (t ≡ B.output → ⊥))
       (FitsBy B (RightIn B l last) c d)
       (λ t q. (q.0.0, (q.0.1, λ o. absurd (q.1 o)), q.0.2))
       (λ t q. ((q.0, q.1.0, q.2), λ o. (rw e at (q.1.1 o))))
       (marks_without x (2 ^ B.output) (FitsBy B (λ t. LabelFits (B.label t) l) c d) (λ t. t ≡ B.output) m (marks_one B.output))
-
--- the stores of one turn
-pub turned_lists : (i p f g : ℕ) (fit under : List ℕ) → p < i → i < length fit → i < length under → Turned i p f g (get_or under i 0) (entries fit)
-    (entries under)
-    (entries (set (set fit i f) p (bit_or (get_or (set fit i f) p 0) g))) (entries (set under p (bit_or (bit_or (get_or under p 0) f) (get_or under i 0))))
-turned_lists i p f g fit under l a b = record {
-  own = get_or-set_other (set fit i f) p i _ 0 (omega arith) ∙ get_or-set_same fit i f 0 a;
-  up = get_or-set_same (set fit i f) p _ 0 (simp length-set (omega arith)) ∙ ap (λ x. bit_or x g) (get_or-set_other fit i p f 0 (omega arith));
-  up_under = get_or-set_same under p _ 0 (omega arith);
-  others = λ k m n. (old k (omega arith) n, get_or-set_other under p k _ 0 n);
-  later = λ k m. old k (omega arith) (omega arith);
-}
-  where
-    old : (q : ℕ) → (q ≡ i → ⊥) → (q ≡ p → ⊥) → get_or (set (set fit i f) p (bit_or (get_or (set fit i f) p 0) g)) q 0 ≡ get_or fit q 0
-    old q m n = get_or-set_other (set fit i f) p q _ 0 n ∙ get_or-set_other fit i q f 0 m

@@ -3,14 +3,17 @@
 --   RightIn    a step of B may go to a step of A, by its label and the output step
 --   FitsIn     a step of B that fits at a step of A
 --   FitTable   a table of the steps of B that fit at each step of A
---   Picks      the smallest number of a kind
---   StepLists  a pattern's parents and axes as lists
+--   Picks      the smallest step of a kind
+--   StepsOf    the steps of a pattern that obeys the rules are those of a table
 --   ImageAt    a step that may take another, by a table
 -- Assumes nothing.
-use Rattle.std.specs.Prelude.{ℕ, ◌≤◌, ◌<◌, ◌≡◌, Bool, List, T, get_or}
+use Rattle.std.specs.Prelude.{ℕ, ◌≤◌, ◌<◌, ◌≡◌, Bool, List, T, get_or, Option, Some, None}
 use Rattle.tables.specs.Bits.{bit, Marks}
 use Rattle.tables.specs.Tree.{From}
+use Rattle.tables.specs.Column.{step_no}
 use Rattle.tables.specs.Pattern.{Shape, rows_of, ValidShape}
+use Rattle.tables.specs.declared.Pattern.{Pattern}
+use Rattle.tables.specs.declared.StepNo.{StepNo}
 use Rattle.placing.specs.Placement.{LabelFits, Goes, SendsFrom}
 
 -- step t of B may go to a step of label l, the output step only if `last` says so
@@ -28,17 +31,17 @@ pub record FitsIn (B A : Shape) (s t : ℕ) : Type 0 where
 abbrev pub FitTable : Shape → Shape → List ℕ → Type 0
 FitTable B A table = (s : ℕ) → s < A.tree.size → Marks (get_or table s 0) (FitsIn B A s)
 
--- r is the smallest number with X, below 64; or 64, where there is none
-pub data Picks (X : ℕ → Type 0) (r : ℕ) : Type 0 where
-  picked : r < 64 → X r → ((j : ℕ) → X j → r ≤ j) → Picks X r
-  nothing : r ≡ 64 → ((j : ℕ) → X j → ⊥) → Picks X r
+-- the smallest step whose number has X; or none, where no number has it
+pub data Picks (X : ℕ → Type 0) : Option StepNo → Type 0 where
+  picked : (s : StepNo) → X s.0 → ((j : ℕ) → X j → s.0 ≤ j) → Picks X (Some s)
+  nothing : ((j : ℕ) → X j → ⊥) → Picks X None
 
--- A, which obeys the rules, has n steps, with these parents and axes
-pub record StepLists (A : Shape) (parents axes : List ℕ) (n : ℕ) : Type 0 where
+-- A obeys the rules, and its steps hang as those of a table do
+pub record StepsOf (A : Shape) (a : Pattern) : Type 0 where
   pub valid : ValidShape A
-  pub count : A.tree.size ≡ n
-  pub parent : (j : ℕ) → A.tree.parent j ≡ get_or parents j 0
-  pub axis : (j : ℕ) → A.axis j ≡ get_or axes j 0
+  pub count : A.tree.size ≡ a.count
+  pub parent : (j : ℕ) → A.tree.parent j ≡ (get_or a.parent j (step_no 0)).0
+  pub axis : (j : ℕ) → A.axis j ≡ get_or a.axis j 0
 
 -- step j of A may take step t, of this axis, by the table, where the parent of t is at step q
 abbrev pub ImageAt : Shape → List ℕ → ℕ → ℕ → ℕ → ℕ → Type 0

@@ -3,49 +3,32 @@
 
 #![tactic(auto)]
 
-ghost use Rattle.std.specs.Prelude.{◌≡◌, ◌↔◌, ℕ, ◌≤◌, ◌<◌, ◌^◌, T, length, get_or, replicate};
+ghost use Rattle.std.specs.Prelude.{◌≡◌, ◌↔◌, ℕ, ◌<◌, ◌≤◌, ◌^◌, T, get_or};
 ghost use Rattle.tables.specs.Bits.{bit, Marks};
-ghost use Rattle.tables.specs.Pattern.{Shape, shape_of, ValidPattern};
+ghost use Rattle.tables.specs.Pattern.{Shape, shape_of};
 ghost use Rattle.plan.specs.Steps.{mask_for, FitsBy};
 ghost use Rattle.plan.specs.Plans.{GroupPlan};
 ghost use Rattle.plan.specs.Rising.{entries, Turned};
-ghost use Rattle.mappings.specs.Fits.{RightIn, FitTable, Picks, StepLists, ImageAt};
+ghost use Rattle.mappings.specs.Fits.{RightIn, FitTable, Picks, StepsOf, ImageAt};
 
-use plan::{BYTE, Sets};
-use tables::{Pattern, STEPS, StepNo};
-
-// The answer of a search for a step that finds none: no pattern has so many.
-pub const NONE: u8 = 64;
+use plan::GroupedPlan;
+use tables::{Pattern, RightPattern, STEPS, StepNo};
 
 // What of f goes up along an edge of this axis to the steps of axis child: all of it along a child edge.
+// kept: one look at the axis of a step, which is data of it, here, in `first_steps` and in `goes`: nothing to hand over.
 fn along(axis: u8, f: u64) -> u64
     ensures { result ≡ mask_for axis f 0 }
 {
-    if axis == 0 {
-        return f;
-    }
-    0
+    if axis == 0 { f } else { 0 }
 }
 
-// The steps of b that fit at a step of label l, the output step, as the bit `output`, only where `last` says so.
-fn fits(
-    low: &[u64; BYTE],
-    high: &[u64; BYTE],
-    forks: &[u64; STEPS],
-    later: &[u64; STEPS],
-    n: usize,
-    sets: Sets,
-    output: u64,
-    l: u16,
-    last: bool,
-    c: u64,
-    d: u64,
-) -> u64
-    requires { n ≤ 64 }
-    ensures { (B : Shape) → GroupPlan B low.now high.now forks.now later.now n sets → output ≡ 2 ^ B.output
-        → Marks result (FitsBy B (RightIn B l last) c d) }
+// The steps of b that fit at a step of this label, the output step, as the bit `output`, only where `last` says so.
+// kept: a flag, since a closure for the one step that differs would hide that it is the output step.
+// kept: that the plan is B's stands in the promise: as in `pass_on` of answers, a ghost field would be an option that each promise has to take apart.
+fn fits(plan: &GroupedPlan, output: u64, label: u16, last: bool, c: u64, d: u64) -> u64
+    ensures { (B : Shape) → GroupPlan B plan.now → output ≡ 2 ^ B.output → Marks result (FitsBy B (RightIn B label last) c d) }
 {
-    let x = plan::fits_grouped(low, high, forks, later, n, sets, l, c, d);
+    let x = plan.fits(label, c, d);
     if last {
         return x;
     }
@@ -53,160 +36,85 @@ fn fits(
 }
 
 // Step i gets what fits at it, f; its parent p gathers f below it, and g, what of f fits along a child edge.
-fn hand_up(fit: &mut [u64; STEPS], under: &mut [u64; STEPS], i: StepNo, p: StepNo, f: u64, g: u64)
-    requires { (p.0 < i.0) × (i.0 < 64) × (length fit.old ≡ 64) × (length under.old ≡ 64) }
-    ensures sizes { (length fit.new ≡ 64) × (length under.new ≡ 64) }
-    ensures turn { Turned i.0 p.0 f g (get_or under.old i.0 0) (entries fit.old) (entries under.old)
-        (entries fit.new) (entries under.new) }
+fn hand_up(fit: &mut [u64; STEPS], under: &mut [u64; STEPS], i: usize, p: usize, f: u64, g: u64)
+    requires { (p < i) × (i < 64) }
+    ensures { Turned i p f g (get_or under.old i 0) (entries fit.old) (entries under.old) (entries fit.new) (entries under.new) }
 {
-    let own = i.0 as usize;
-    let over = p.0 as usize;
-    fit[own] = f;
-    fit[over] = fit[over] | g;
-    under[over] = under[over] | f | under[own];
+    fit[i] = f;
+    fit[p] |= g;
+    under[p] = under[p] | f | under[i];
 }
 
-// Which steps of b fit at each step of a, in a table of zeros: from the last step of a to the first.
-fn fit_turns(
-    a: Pattern,
-    low: &[u64; BYTE],
-    high: &[u64; BYTE],
-    forks: &[u64; STEPS],
-    later: &[u64; STEPS],
-    n: usize,
-    sets: Sets,
-    output: u64,
-    fit: &mut [u64; STEPS],
-)
-    requires valid_pattern { ValidPattern a }
-    requires n_bound { n ≤ 64 }
-    requires fit_value { fit.old ≡ replicate 64 0 }
-    ensures { (B : Shape) → GroupPlan B low.now high.now forks.now later.now n sets → output ≡ 2 ^ B.output
-        → FitTable B (shape_of a) fit.new }
+// Which steps of b fit at each step of a: what is looked up of b is filled first, then a pass goes from the last step of a to the first.
+// kept: each step reads what the loop gathered for it from the later ones, by number, in both tables and three arrays of the pattern: so no chain.
+pub fn fit_steps(a: RightPattern<'_>, b: RightPattern<'_>) -> [u64; STEPS]
+    ensures { FitTable (shape_of b.entry.table.now) (shape_of a.entry.table.now) result }
 {
-    let mut under = [0u64; STEPS];
-    let mut i = a.count as u8;
-    while 1 < i {
-        i -= 1;
-        let s = StepNo(i);
-        let row = i as usize;
-        let l = a.label[row];
-        let f = fits(
-            low,
-            high,
-            forks,
-            later,
-            n,
-            sets,
-            output,
-            l,
-            s.0 == a.output.0,
-            fit[row],
-            under[row],
-        );
-        let g = along(a.axis[row], f);
-        hand_up(fit, &mut under, s, a.parent[row], f, g);
+    let mut plan = GroupedPlan::none();
+    plan.fill(b);
+    let p = a.table;
+    let own = usize::from(p.output.0);
+    let output = plan::one_bit(b.table.output);
+    let mut fit = [0; STEPS];
+    let mut under = [0; STEPS];
+    for i in (1..p.count).rev() {
+        let f = fits(&plan, output, p.label[i], i == own, fit[i], under[i]);
+        let g = along(p.axis[i], f);
+        hand_up(&mut fit, &mut under, i, usize::from(p.parent[i].0), f, g);
     }
-    fit[0] = fits(
-        low,
-        high,
-        forks,
-        later,
-        n,
-        sets,
-        output,
-        a.label[0],
-        0 == a.output.0,
-        fit[0],
-        under[0],
-    );
+    fit[0] = fits(&plan, output, p.label[0], 0 == own, fit[0], under[0]);
+    fit
 }
 
-// Which steps of b fit at each step of a, in a table of zeros: what is looked up of b is filled first.
-pub fn fit_steps(a: Pattern, b: Pattern, fit: &mut [u64; STEPS])
-    requires valid_pattern { ValidPattern a }
-    requires valid_pattern_2 { ValidPattern b }
-    requires fit_value { fit.old ≡ replicate 64 0 }
-    ensures { FitTable (shape_of b) (shape_of a) fit.new }
-{
-    let mut low = [0u64; BYTE];
-    let mut high = [0u64; BYTE];
-    plan::label_steps(b, &mut low, &mut high);
-    let mut children = [0u64; STEPS];
-    let mut parents = [0u64; STEPS];
-    let sets = plan::gather(b, &mut children, &mut parents);
-    let mut forks = [0u64; STEPS];
-    let mut later = [0u64; STEPS];
-    let n = plan::group(&children, sets.next, b.count, &mut forks, &mut later);
-    let output = plan::one_bit(b.output);
-    fit_turns(a, &low, &high, &forks, &later, n, sets, output, fit);
-}
-
-// How many of the first of n steps may take step 0 of a pattern, whose axis is `axis`, where the first of them has axis `own`.
-fn first_steps(n: usize, own: u8, axis: u8) -> usize
-    requires { 0 < n }
-    ensures { (j : ℕ) → (j < result) ↔ ((j < n) × (axis ≡ 0 → (j ≡ 0) × (own ≡ 0))) }
+// How many of the first steps of a may take step 0 of a pattern, whose axis is `axis`.
+fn first_steps(a: &Pattern, axis: u8) -> usize
+    requires { 0 < a.now.count }
+    ensures { let A = shape_of a.now in (j : ℕ) → (j < result) ↔ ((j < A.tree.size) × (axis ≡ 0 → (j ≡ 0) × (A.axis 0 ≡ 0))) }
 {
     if axis != 0 {
-        return n;
+        a.count
+    } else if a.axis[0] == 0 {
+        1
+    } else {
+        0
     }
-    if own == 0 {
-        return 1;
-    }
-    0
 }
 
-// The smallest of n steps that may take step 0 of a pattern, whose axis is `axis`, where the first of them has axis `own`; NONE where there is none.
-pub fn first_image(n: usize, own: u8, axis: u8, fit: &[u64; STEPS]) -> StepNo
-    requires { (0 < n) × (n ≤ 64) }
-    ensures { Picks (λ j. ((j < n) × (axis ≡ 0 → (j ≡ 0) × (own ≡ 0))) × (bit (get_or fit.now j 0) 0 ≡ 1)) result.0 }
+// The smallest step of a that may take step 0 of a pattern, whose axis is `axis`, by the table.
+pub fn first_image(a: &Pattern, axis: u8, fit: &[u64; STEPS]) -> Option<StepNo>
+    requires { (0 < a.now.count) × (a.now.count ≤ 64) }
+    ensures { let A = shape_of a.now in
+        Picks (λ j. ((j < A.tree.size) × (axis ≡ 0 → (j ≡ 0) × (A.axis 0 ≡ 0))) × (bit (get_or fit.now j 0) 0 ≡ 1)) result }
 {
-    let m = first_steps(n, own, axis);
-    for s in 0..m {
-        if plan::has_bit(fit[s], StepNo(0)) {
-            return StepNo(s as u8);
+    let firsts = &fit[..first_steps(a, axis)];
+    let s = firsts
+        .iter()
+        .position(|steps| plan::has_bit(*steps, StepNo(0)))?;
+    Some(StepNo(s as u8))
+}
+
+// May step s of a take a step of this axis, where the parent step of that is at q and s is below q?
+fn goes(a: &Pattern, axis: u8, q: StepNo, s: usize) -> bool
+    requires { s < 64 }
+    ensures { let A = shape_of a.now in T result ↔ (axis ≡ 0 → (A.tree.parent s ≡ q.0) × (A.axis s ≡ 0)) }
+{
+    axis != 0 || (a.parent[s] == q && a.axis[s] == 0)
+}
+
+// The smallest step of a that may take step t of a pattern, of this axis, by the table, where the parent step of t is at q. What is below q stands in one run
+// after q: where any step of it may take t, the first after q that fits is not past the run.
+// kept: a loop over the number of the step: with `find` over the numbers the test has each behind a reference, and a `map` behind it makes the step.
+// kept: any table of 64 steps at most, as any lists were before.
+// kept: t is below 64: a StepNo may be any byte, and 255 is the parent of step 0.
+pub fn next_image(a: &Pattern, fit: &[u64; STEPS], t: StepNo, axis: u8, q: StepNo) -> Option<StepNo>
+    requires { (a.now.count ≤ 64) × (t.0 < 64) × (q.0 < a.now.count) }
+    ensures { (A : Shape) → StepsOf A a.now → ((j : ℕ) × ImageAt A fit.now t.0 axis q.0 j) → Picks (ImageAt A fit.now t.0 axis q.0) result }
+{
+    let at = usize::from(q.0);
+    for s in at + 1..a.count {
+        if plan::has_bit(fit[s], t) && goes(a, axis, q, s) {
+            return Some(StepNo(s as u8));
         }
     }
-    StepNo(NONE)
-}
-
-// May a step that goes to step s, below q, be a step of this axis, where s hangs on p along an edge of axis `own`? And does it fit there?
-fn takes(x: u64, t: StepNo, axis: u8, q: StepNo, p: StepNo, own: u8) -> bool
-    requires { t.0 < 64 }
-    ensures { T result ↔ ((axis ≡ 0 → (p.0 ≡ q.0) × (own ≡ 0)) × (bit x t.0 ≡ 1)) }
-{
-    if !plan::has_bit(x, t) {
-        return false;
-    }
-    if axis != 0 {
-        return true;
-    }
-    if p.0 != q.0 {
-        return false;
-    }
-    own == 0
-}
-
-// The smallest of n steps that may take step t, of this axis, where its parent step is at q; NONE where there is none. The steps hang by `parents` and `axes`.
-// What is below q stands in one run after q: where any step of it may take t, the first after q that fits is not past the run.
-pub fn next_image(
-    parents: &[u8; STEPS],
-    axes: &[u8; STEPS],
-    n: usize,
-    fit: &[u64; STEPS],
-    t: StepNo,
-    axis: u8,
-    q: StepNo,
-) -> StepNo
-    requires { (n ≤ 64) × (t.0 < 64) × (q.0 < n) }
-    ensures { (A : Shape) → StepLists A parents.now axes.now n → ((j : ℕ) × ImageAt A fit.now t.0 axis q.0 j)
-        → Picks (ImageAt A fit.now t.0 axis q.0) result.0 }
-{
-    let at = q.0 as usize;
-    for s in at + 1..n {
-        if takes(fit[s], t, axis, q, StepNo(parents[s]), axes[s]) {
-            return StepNo(s as u8);
-        }
-    }
-    StepNo(NONE)
+    None
 }

@@ -1,4 +1,3 @@
 -- The first pass over the nodes, and the lists that the marks go to. Assumes nothing.
 pub mod Upward
-pub mod Stores
 pub mod Starts

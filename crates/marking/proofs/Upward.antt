@@ -74,14 +74,3 @@ module _ (A : Shape) (d : Document) (va : ValidShape A) (vd : ValidDocument d) (
 
       old : (q : ℕ) → 2 ≤ q → get_or after q 0 ≡ get_or work q 0
       old q l = get_or-set_other (set work 0 x) 1 q seed 0 (omega arith) ∙ get_or-set_other work 0 q x 0 (omega arith)
-
-  -- what the list held before matters only in its length and past the nodes' entries
-  pub fitted_before : (before cleared work : List ℕ) → length cleared ≡ length before
-      → ((q : ℕ) → 2 * node_count d ≤ q → get_or cleared q 0 ≡ get_or before q 0)
-      → Fitted A d seed cleared work → Fitted A d seed before work
-  fitted_before before cleared work e r u = record {
-    same_length = u.same_length ∙ e;
-    fits = u.fits;
-    seeded = u.seeded;
-    rest = λ q l. u.rest q l ∙ r q l;
-  }

@@ -7,12 +7,12 @@
 --   start_checks     what the started form checks, in order
 --   StartsPackets   what the started form answers
 -- Assumes nothing.
-use Rattle.std.specs.Prelude.{ℕ, ◌*◌, ◌%◌, ◌≡◌, List, [], ◌∷◌, ◌++◌, length, drop}
+use Rattle.std.specs.Prelude.{ℕ, ◌*◌, ◌%◌, ◌≡◌, List, [], ◌∷◌, ◌++◌, length, drop, Result}
 use Rattle.tables.specs.Checks.{room_for}
 use Rattle.tables.specs.Document.{Document}
 use Rattle.tables.specs.Pattern.{Shape, shape_of}
-use Rattle.tables.specs.Refusal.{Check, CountedBy}
-use Rattle.tables.specs.declared.Counted.{Counted}
+use Rattle.tables.specs.Refusal.{Check, Decided}
+use Rattle.tables.specs.declared.Refusal.{Refusal}
 use Rattle.halves.specs.Bytes.{packed, unpacked}
 use Rattle.packets.specs.PatternPacket.{packet_pattern, pattern_checks}
 use Rattle.packets.specs.DocumentPacket.{nodes_in, packet_document, document_rules}
@@ -34,8 +34,8 @@ abbrev pub packet_checks : List ℕ → List ℕ → ℕ → List Check
 packet_checks ds ps m = (document_rules ds ++ pattern_checks ps) ++ nodes_room ds m
 
 -- the answers of a packet's pattern in a packet's document; a refusal leaves the room as it was
-pub record AnswersPackets (ds ps room₀ : List ℕ) (r : Counted) (room : List ℕ) : Type 0 where
-  pub says : CountedBy (packet_checks ds ps (length room₀)) r
+pub record AnswersPackets (ds ps room₀ : List ℕ) (r : Result ℕ Refusal) (room : List ℕ) : Type 0 where
+  pub says : Decided (packet_checks ds ps (length room₀)) r
       (λ c. AnswersPut (Begins (shape_of (packet_pattern ps))) (shape_of (packet_pattern ps)) (packet_document ds) room₀ c room) (room ≡ room₀)
 
 -- step 0 has axis child, and the start bytes are a start list of the document
@@ -48,6 +48,6 @@ abbrev pub start_checks : List ℕ → List ℕ → List ℕ → ℕ → List Ch
 start_checks ds ps ss m = (document_rules ds ++ pattern_checks ps) ++ start_check ds ps ss ++ nodes_room ds m
 
 -- the answers with step 0 at any start node; a refusal leaves the room as it was
-pub record StartsPackets (ds ps ss room₀ : List ℕ) (r : Counted) (room : List ℕ) : Type 0 where
-  pub says : CountedBy (start_checks ds ps ss (length room₀)) r
+pub record StartsPackets (ds ps ss room₀ : List ℕ) (r : Result ℕ Refusal) (room : List ℕ) : Type 0 where
+  pub says : Decided (start_checks ds ps ss (length room₀)) r
       (λ c. AnswersPut (In (unpacked ss)) (shape_of (packet_pattern ps)) (packet_document ds) room₀ c room) (room ≡ room₀)

@@ -3,127 +3,99 @@
 #![tactic(auto)]
 
 ghost use Rattle.std.specs.Prelude.{◌*◌, ◌≤◌, length};
-ghost use Rattle.tables.specs.Column.{blocks};
-ghost use Rattle.tables.specs.Document.{document_of};
-ghost use Rattle.halves.specs.Bytes.{half_bytes};
+ghost use Rattle.tables.specs.Document.{of_lists};
+ghost use Rattle.halves.specs.Bytes.{packed};
 ghost use Rattle.packet_answers.specs.Documents.{AnswersPackets, StartsPackets};
 ghost use Rattle.packet_answers.specs.inner.Reading.{AfterRules, ReadsBoth};
 ghost use Rattle.packets.specs.inner.Putting.{Puts};
 
-use tables::{Checked, Counted, NODES, Pattern, Refusal};
+use tables::{Lists, NODES, Pattern, Refusal};
 
-// What reading a document packet and a pattern packet gives: the node count or the first refusal, and the pattern.
-#[derive(Clone, Copy)]
-struct NodesAndPattern {
-    answer: Counted,
-    pattern: Pattern,
-}
+// Two working entries for each node.
+const WORK: usize = 2 * NODES;
 
 // The refusal of a document that breaks the rules; of any other, the one that comes after them.
-fn after_rules(parents: &[u16], labels: &[u16], r: Refusal) -> Refusal
-    ensures { AfterRules (document_of parents.now labels.now) r result }
+fn after_rules(lists: Lists<'_>, r: Refusal) -> Refusal
+    ensures { AfterRules (of_lists lists.entry) r result }
 {
-    match tables::check_document(parents, labels) {
-        Checked::Right => r,
-        Checked::Refused(q) => q,
+    match tables::check_document(lists) {
+        Ok(_) => r,
+        Err(q) => q,
     }
 }
 
-// The nodes of one packet, into two lists with room for any document, and the pattern of another. The document's rules are checked here only where the
-// pattern's packet is refused, since they come before it; else they are left to the call that answers, which checks them anyway.
-fn read_nodes_and_pattern(
+// The nodes of one packet, at the fronts of two lists with room for any document, and the pattern of another. The document's rules are checked here only where
+// the pattern's packet is refused, since they come before it; else they are left to the call that answers, which checks them anyway.
+// kept: two packets beside each other, here and in the functions that call this: C hands them over so.
+fn read_nodes_and_pattern<'a>(
     document: &[u8],
     pattern: &[u8],
-    parents: &mut [u16],
-    labels: &mut [u16],
-) -> NodesAndPattern
-    requires { (2048 ≤ length parents.old) × (2048 ≤ length labels.old) }
-    ensures { ReadsBoth document.now pattern.now parents.old labels.old result.answer result.pattern
-        parents.new labels.new }
+    parents: &'a mut [u16; NODES],
+    labels: &'a mut [u16; NODES],
+) -> Result<(Lists<'a>, Pattern), Refusal>
+    ensures { ReadsBoth document.now pattern.now result }
 {
-    let x = packets::read_pattern(pattern);
-    let told = x.answer;
-    let p = x.pattern;
-    let n = match packets::read_nodes(document, parents, labels) {
-        Counted::Count(n) => n,
-        Counted::Refused(r) => {
-            return NodesAndPattern {
-                answer: Counted::Refused(r),
-                pattern: p,
-            };
-        }
+    let n = packets::read_nodes(document, parents, labels)?;
+    let lists = Lists {
+        parents: &parents[..n],
+        labels: &labels[..n],
     };
-    match told {
-        Checked::Right => NodesAndPattern {
-            answer: Counted::Count(n),
-            pattern: p,
-        },
-        Checked::Refused(r) => {
-            let q = after_rules(&parents[..n], &labels[..n], r);
-            NodesAndPattern {
-                answer: Counted::Refused(q),
-                pattern: p,
-            }
-        }
+    match packets::read_pattern(pattern) {
+        Ok(p) => Ok((lists, p)),
+        Err(r) => Err(after_rules(lists, r)),
     }
 }
 
-// The first c answers of a list as bytes, where the room has two for each of n nodes; the answer is c.
-fn put_answers(list: &[u16], c: usize, n: usize, room: &mut [u8]) -> Counted
-    requires { (c ≤ length list.now) × (c ≤ n) × (n ≤ 2048) }
-    ensures { Puts (2 * n) (blocks (half_bytes list.now) c) (2 * c) c room.old result room.new }
+// A list of answers as bytes, where the room has two for each of n nodes; the answer is how many they are.
+fn put_answers(list: &[u16], n: usize, room: &mut [u8]) -> Result<usize, Refusal>
+    requires { length list.now ≤ n }
+    ensures { Puts (2 * n) (packed list.now) (2 * length list.now) (length list.now) room.old result room.new }
 {
     if room.len() / 2 < n {
-        return Counted::Refused(Refusal::Room);
+        return Err(Refusal::Room);
     }
-    halves::put_halves(list, c, room);
-    Counted::Count(c)
+    halves::put_halves(list, room);
+    Ok(list.len())
 }
 
 // The answers of a packet's pattern in a packet's document, as bytes.
-pub fn answer_packets(document: &[u8], pattern: &[u8], room: &mut [u8]) -> Counted
+// kept: lists of this call's own with room for any document, cut to what they hold where they are lent: fixed memory, no heap. So in `start_packets`.
+pub fn answer_packets(document: &[u8], pattern: &[u8], room: &mut [u8]) -> Result<usize, Refusal>
     ensures { AnswersPackets document.now pattern.now room.old result room.new }
 {
-    let mut parents = [0u16; NODES];
-    let mut labels = [0u16; NODES];
-    let mut list = [0u16; NODES];
-    let mut work = [0u64; 4096];
-    let x = read_nodes_and_pattern(document, pattern, &mut parents, &mut labels);
-    let read = x.answer;
-    let n = match read {
-        Counted::Count(n) => n,
-        Counted::Refused(r) => return Counted::Refused(r),
-    };
-    match answers::answers(x.pattern, &parents[..n], &labels[..n], &mut list, &mut work) {
-        Counted::Count(c) => put_answers(&list, c, n, room),
-        Counted::Refused(r) => Counted::Refused(r),
-    }
+    let mut parents = [0; NODES];
+    let mut labels = [0; NODES];
+    let mut list = [0; NODES];
+    let mut work = [0; WORK];
+    let (lists, p) = read_nodes_and_pattern(document, pattern, &mut parents, &mut labels)?;
+    let c = answers::answers(&p, lists, &mut list, &mut work)?;
+    put_answers(&list[..c], lists.parents.len(), room)
 }
 
 // The same with step 0 at any of the start nodes, which are bytes too.
-pub fn start_packets(document: &[u8], pattern: &[u8], starts: &[u8], room: &mut [u8]) -> Counted
+// kept: beside `answer_packets`, and not one with it over a closure for the search: what they share are the calls that read and put, and the closure's contract
+// would say again what document and pattern are, and what the lists hold before and after.
+pub fn start_packets(
+    document: &[u8],
+    pattern: &[u8],
+    starts: &[u8],
+    room: &mut [u8],
+) -> Result<usize, Refusal>
     ensures { StartsPackets document.now pattern.now starts.now room.old result room.new }
 {
-    let mut own_parents = [0u16; NODES];
-    let mut own_labels = [0u16; NODES];
-    let mut from = [0u16; NODES];
-    let mut list = [0u16; NODES];
-    let mut work = [0u64; 4096];
-    let x = read_nodes_and_pattern(document, pattern, &mut own_parents, &mut own_labels);
-    let read = x.answer;
-    let n = match read {
-        Counted::Count(n) => n,
-        Counted::Refused(r) => return Counted::Refused(r),
-    };
-    let parents = &own_parents[..n];
-    let labels = &own_labels[..n];
+    let mut parents = [0; NODES];
+    let mut labels = [0; NODES];
+    let mut from = [0; NODES];
+    let mut list = [0; NODES];
+    let mut work = [0; WORK];
+    let (lists, p) = read_nodes_and_pattern(document, pattern, &mut parents, &mut labels)?;
+    let n = lists.parents.len();
     let k = starts.len() / 2;
     if starts.len() % 2 != 0 || n < k {
-        return Counted::Refused(after_rules(parents, labels, Refusal::Start));
+        return Err(after_rules(lists, Refusal::Start));
     }
-    halves::get_halves(starts, 0, 2, k, &mut from);
-    match answers::started(x.pattern, parents, labels, &from[..k], &mut list, &mut work) {
-        Counted::Count(c) => put_answers(&list, c, n, room),
-        Counted::Refused(r) => Counted::Refused(r),
-    }
+    let start_nodes = &mut from[..k];
+    halves::get_halves(starts, 0, 2, start_nodes);
+    let c = answers::started(&p, lists, start_nodes, &mut list, &mut work)?;
+    put_answers(&list[..c], n, room)
 }

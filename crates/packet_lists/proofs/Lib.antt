@@ -1,3 +1,2 @@
 -- The laws of the calls on lists, file by file. Assumes nothing.
-pub mod ListCalls
 pub mod Unique

@@ -1,15 +1,14 @@
 -- Containment on packets, from the contracts of the calls that it makes. Assumes nothing.
-use Rattle.tables.proofs.Kit.{ℕ, ◌+◌, ◌*◌, ◌≤◌, ◌≡◌, sym, ap, ap₂, ◌∙◌, subst, subst₂, ⊎_elim}
+use Rattle.tables.proofs.Kit.{ℕ, ◌+◌, ◌*◌, ◌≡◌, refl, sym, ap, ap₂, ◌∙◌, subst, subst₂, ⊎_elim}
 use Rattle.tables.proofs.Kit.{List, [], ◌∷◌, ◌++◌, arith, length, get_or, take, drop, replicate, length-replicate, take_at}
+use Rattle.tables.proofs.Kit.{Result, Ok, Err}
 use Rattle.tables.specs.{Checks.room_for, Column.{column, step_no}, Document.{Document, document_of}, Pattern.{Shape, shape_of, ValidShape}}
-use Rattle.tables.specs.{Refusal.{Check, Passes, Refuses}, declared.Refusal.Refusal, declared.NodeNo.NodeNo, declared.Pattern.Pattern, declared.Counted.Counted}
-use Rattle.tables.specs.declared.Checked.TheVariants as checked
-use Rattle.tables.specs.declared.Counted.TheVariants as counted
+use Rattle.tables.specs.{Refusal.{Check, Passes, Refuses}, declared.Refusal.Refusal, declared.NodeNo.NodeNo, declared.Pattern.Pattern, declared.Refusal.Refusal}
 use Rattle.tables.proofs.Outcomes.{refuses_front, refuses_rest, passes_both, last_holds}
 use Rattle.halves.specs.Bytes.{high, low}
-use Rattle.packets.specs.{PatternPacket.{packet_pattern, pattern_checks, ReadsTwo}, DocumentPacket.document_packet}
-use Rattle.packets.specs.{declared.TwoRead.TwoRead, inner.Putting.Puts}
-use Rattle.packets.proofs.{Views.{TwoRight, two_of, two_told}, Putting.puts_rest}
+use Rattle.packets.specs.{PatternPacket.{packet_pattern, pattern_checks, ReadsTwo}, DocumentPacket.{document_packet, size_of}}
+use Rattle.packets.specs.inner.Putting.{Puts}
+use Rattle.packets.proofs.{Views.{TwoRight, two_of}, Putting.puts_rest}
 use Rattle.containment.specs.{Containment.{AnswersContainment, DecidesContainment}, Witness.{witness_size, witness_of}}
 use Rattle.containment.specs.{declared.Containment.Containment, declared.ContainmentAnswer.ContainmentAnswer}
 use Rattle.containment.specs.declared.Containment.TheVariants as containment
@@ -27,8 +26,8 @@ told : (room₀ : List ℕ) {d e : Document} {x y m n : ℕ} → d ≡ e → x �
     → document_packet d ++ (high x ∷ low x ∷ []) ++ drop (4 * m + 3 + 2) room₀ ≡ document_packet e ++ (high y ∷ low y ∷ []) ++ drop (4 * n + 3 + 2) room₀
 told room₀ e f g = λ i. document_packet (e i) ++ (high (f i) ∷ low (f i) ∷ []) ++ drop (4 * g i + 3 + 2) room₀
 
--- two packets that were read
-module _ {xs ys : List ℕ} {t : TwoRead} (s : ReadsTwo xs ys t) where
+-- two packets that are right
+module _ (xs ys : List ℕ) where
   abbrev front : List Check
   front = pattern_checks xs ++ pattern_checks ys
 
@@ -38,85 +37,78 @@ module _ {xs ys : List ℕ} {t : TwoRead} (s : ReadsTwo xs ys t) where
   abbrev B : Pattern
   B = packet_pattern ys
 
-  -- a packet that is refused
-  pub contains_unread : {room₀ room : List ℕ} (r : Refusal) → t.answer ≡ checked.Refused r → room ≡ room₀ → ContainsPackets xs ys room₀ (counted.Refused r)
-      room
-  contains_unread {room₀} r e k =
-      record { says = (refuses_front front (fresh_check A B ++ room_for 517 (length room₀)) r (two_told (checked.Refused r) s e).0, k) }
-
-  module _ (e : t.answer ≡ checked.Right) where
-    passes : Passes front
-    passes = (two_told checked.Right s e).0
-
+  module _ (a b : Pattern) (s : ReadsTwo xs ys (Ok (a, b))) (parents labels : List ℕ) where
     right : TwoRight xs ys
-    right = two_of xs ys passes
+    right = two_of xs ys s.says.0
 
-    module _ (parents labels : List ℕ) (f : ContainmentAnswer)
-        (h : DecidesContainment t.first t.second (replicate 128 0) (replicate 128 0) f parents labels) where
-      -- the call in terms of the packets
-      here : (a : Containment) → f.answer ≡ a → AnswersContainment A B (replicate 128 0) (replicate 128 0) a f.mapping parents labels
-      here a g =
-          let p = (two_told checked.Right s e).1 in
-          subst (λ x. AnswersContainment A B (replicate 128 0) (replicate 128 0) x f.mapping parents labels) g
-          (subst₂ (λ x y. DecidesContainment x y (replicate 128 0) (replicate 128 0) f parents labels) p.0 p.1 h)
+    -- the call in terms of the packets
+    here : (f : Result ContainmentAnswer Refusal) → DecidesContainment a b (replicate 128 0) (replicate 128 0) f parents labels
+        → DecidesContainment A B (replicate 128 0) (replicate 128 0) f parents labels
+    here f h = subst₂ (λ x y. DecidesContainment x y (replicate 128 0) (replicate 128 0) f parents labels) s.says.1.0 s.says.1.1 h
 
-      -- the call refuses for the label alone
-      pub contains_refused : {room₀ room : List ℕ} (r : Refusal) → f.answer ≡ containment.Refused r → room ≡ room₀
-          → ContainsPackets xs ys room₀ (counted.Refused r) room
-      contains_refused {room₀} r g k =
-          let w = (here (containment.Refused r) g).0 in let m = witness_few right.first.right in
-          let l = length-replicate {A = ℕ} 128 0 in
-          let fresh : Refuses (fresh_check A B) r =
-          ⊎_elim (λ w. absurd (w.0 right.first.right)) (λ w. ⊎_elim (λ w. absurd (w.0 right.second.right))
-          (λ w. last_holds (fresh_check A B) _ r (λ p. (omega (arith, m, l), omega (arith, m, l))) w.1) w.1) w in
-          record {
-            says = (
-              refuses_rest front (fresh_check A B ++ room_for 517 (length room₀)) r passes
-                  (refuses_front (fresh_check A B) (room_for 517 (length room₀)) r fresh),
-              k,
-            );
-          }
+    -- the call refuses for the label alone
+    pub contains_refused : {room : List ℕ} (r : Refusal) → DecidesContainment a b (replicate 128 0) (replicate 128 0) (Err r) parents labels
+        → ContainsPackets xs ys room (Err r) room
+    contains_refused {room} r h =
+        let w = (here (Err r) h).0 in let m = witness_few right.first.right in
+        let l = length-replicate {A = ℕ} 128 0 in
+        let fresh : Refuses (fresh_check A B) r =
+        ⊎_elim (λ w. absurd (w.0 right.first.right)) (λ w. ⊎_elim (λ w. absurd (w.0 right.second.right))
+        (λ w. last_holds (fresh_check A B) _ r (λ p. (omega (arith, m, l), omega (arith, m, l))) w.1) w.1) w in
+        record {
+          says = (
+            refuses_rest front (fresh_check A B ++ room_for 517 (length room)) r s.says.0
+                (refuses_front (fresh_check A B) (room_for 517 (length room)) r fresh),
+            refl,
+          );
+        }
+
+    module _ (f : ContainmentAnswer) (h : DecidesContainment a b (replicate 128 0) (replicate 128 0) (Ok f) parents labels) where
+      -- the checks before the room pass
+      passes : Passes (front ++ fresh_check A B)
+      passes = passes_both front (fresh_check A B) s.says.0 ((here (Ok f) h).0.1.1.0, tt)
+
+      -- the answer by its case
+      told_by : (c : Containment) → f.answer ≡ c → AnswersContainment A B (replicate 128 0) (replicate 128 0) c f.mapping parents labels
+      told_by c g = subst (λ x. AnswersContainment A B (replicate 128 0) (replicate 128 0) x f.mapping parents labels) g (here (Ok f) h).1
 
       -- contained: the mapping
-      pub contains_within : {room₀ room : List ℕ} (a : Counted) → f.answer ≡ containment.Contained
-          → Puts 517 (column (λ k. (get_or f.mapping k (step_no 0)).0) 64) 64 1 room₀ a room → ContainsPackets xs ys room₀ a room
-      contains_within {room₀} {room} a g z =
-          let w = here containment.Contained g in
+      pub contains_within : {room₀ room : List ℕ} (r : Result ℕ Refusal) → f.answer ≡ containment.Contained
+          → Puts 517 (column (λ k. (get_or f.mapping k (step_no 0)).0) 64) 64 1 room₀ r room → ContainsPackets xs ys room₀ r room
+      contains_within {room₀} {room} r g z =
+          let w = told_by containment.Contained g in
           record {
-            says = puts_rest (front ++ fresh_check A B) a (λ c. Shown A B room₀ c room) (passes_both front (fresh_check A B) passes (w.0.1.1.0, tt))
+            says = puts_rest (front ++ fresh_check A B) r (λ c. Shown A B room₀ c room) passes
                 (λ k. record {
-                  contained = w.1.contained;
-                  by = w.1.by;
-                  least = w.1.least;
-                  written = k ∙ ap (λ z. z ++ drop 64 room₀) (mapping_bytes w.1.by B.count f.mapping right.second.right.few w.1.array);
+                  contained = w.0.contained;
+                  by = w.0.by;
+                  least = w.0.least;
+                  written = k ∙ ap (λ z. z ++ drop 64 room₀) (mapping_bytes w.0.by B.count f.mapping right.second.right.few w.0.array);
                 }) z;
           }
 
       -- apart: the witness
       module _ (m : ℕ) (node : NodeNo) (g : f.answer ≡ containment.Apart m node) where
         apart : AnswersContainment A B (replicate 128 0) (replicate 128 0) (containment.Apart m node) f.mapping parents labels
-        apart = here (containment.Apart m node) g
-
-        pub apart_few : m ≤ 128
-        apart_few = omega (arith, apart.1.count, witness_few right.first.right)
+        apart = told_by (containment.Apart m node) g
 
         -- the fronts of the two lists are the witness
-        fronts : document_of (take m parents) (take m labels) ≡ witness_of (shape_of A) apart.1.label
+        fronts : document_of (take m parents) (take m labels) ≡ witness_of (shape_of A) apart.0.label
         fronts =
-            let w = apart.1 in let l = witness_lengths right.first.right w.label in
+            let w = apart.0 in let l = witness_lengths right.first.right w.label in
             ap₂ (λ x y. document_of x y)
             (ap (take m) w.parent_list ∙ take_at (witness_of (shape_of A) w.label).parents _ m (l.0 ∙ sym w.count))
             (ap (take m) w.label_list ∙ take_at (witness_of (shape_of A) w.label).labels _ m (l.1 ∙ sym w.count))
 
-        pub contains_apart : {room₀ room : List ℕ} (a : Counted)
+        pub contains_apart : {room₀ room : List ℕ} (r : Result ℕ Refusal)
             → Puts 517 (document_packet (document_of (take m parents) (take m labels)) ++ (high node.0 ∷ low node.0 ∷ []))
-            (4 * length (take m parents) + 3 + 2) 0 room₀ a room → ContainsPackets xs ys room₀ a room
-        contains_apart {room₀} {room} a z =
-            let w = apart.1 in
+            (size_of (document_of (take m parents) (take m labels)) + 2) 0 room₀ r room → ContainsPackets xs ys room₀ r room
+        contains_apart {room₀} {room} r z =
+            let w = apart.0 in
             let n : length (take m parents) ≡ witness_size (shape_of A) =
             ap (λ d. length d.parents) fronts ∙ (witness_lengths right.first.right w.label).0 in
             record {
-              says = puts_rest (front ++ fresh_check A B) a (λ c. Shown A B room₀ c room) (passes_both front (fresh_check A B) passes (apart.0.1.1.0, tt))
+              says = puts_rest (front ++ fresh_check A B) r (λ c. Shown A B room₀ c room) passes
                   (λ k. record {
                     not_contained = w.not_contained;
                     label = w.label;

@@ -6,13 +6,13 @@
 --   contains_checks    what the call checks, in order
 --   ContainsPackets   what the call answers
 -- Assumes nothing.
-use Rattle.std.specs.Prelude.{ℕ, zero, suc, ◌+◌, ◌*◌, ◌≡◌, List, [], ◌∷◌, ◌++◌, length, drop}
+use Rattle.std.specs.Prelude.{ℕ, zero, suc, ◌+◌, ◌*◌, ◌≡◌, List, [], ◌∷◌, ◌++◌, length, drop, Result}
 use Rattle.tables.specs.Column.{padded}
 use Rattle.tables.specs.Checks.{room_for}
 use Rattle.tables.specs.Pattern.{shape_of}
-use Rattle.tables.specs.Refusal.{Check, CountedBy}
+use Rattle.tables.specs.Refusal.{Check, Decided}
 use Rattle.tables.specs.declared.Pattern.{Pattern}
-use Rattle.tables.specs.declared.Counted.{Counted}
+use Rattle.tables.specs.declared.Refusal.{Refusal}
 use Rattle.halves.specs.Bytes.{high, low}
 use Rattle.packets.specs.PatternPacket.{packet_pattern, pattern_checks}
 use Rattle.packets.specs.DocumentPacket.{document_packet}
@@ -50,5 +50,5 @@ abbrev pub contains_checks : List ℕ → List ℕ → ℕ → List Check
 contains_checks xs ys m = (pattern_checks xs ++ pattern_checks ys) ++ fresh_check (packet_pattern xs) (packet_pattern ys) ++ room_for 517 m
 
 -- what the call answers; a refusal leaves the room as it was
-pub record ContainsPackets (xs ys room₀ : List ℕ) (r : Counted) (room : List ℕ) : Type 0 where
-  pub says : CountedBy (contains_checks xs ys (length room₀)) r (λ c. Shown (packet_pattern xs) (packet_pattern ys) room₀ c room) (room ≡ room₀)
+pub record ContainsPackets (xs ys room₀ : List ℕ) (r : Result ℕ Refusal) (room : List ℕ) : Type 0 where
+  pub says : Decided (contains_checks xs ys (length room₀)) r (λ c. Shown (packet_pattern xs) (packet_pattern ys) room₀ c room) (room ≡ room₀)

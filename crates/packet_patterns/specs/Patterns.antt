@@ -7,11 +7,11 @@
 --   RewritesPackets  what it answers
 --   CopiesPacket     what reading a packet and writing it back answers
 -- Assumes nothing.
-use Rattle.std.specs.Prelude.{ℕ, zero, suc, ◌≤◌, ◌≡◌, List, [], ◌∷◌, ◌++◌, length, drop}
+use Rattle.std.specs.Prelude.{ℕ, zero, suc, ◌≤◌, ◌≡◌, List, [], ◌∷◌, ◌++◌, length, drop, Result}
 use Rattle.tables.specs.Checks.{room_for}
-use Rattle.tables.specs.Refusal.{Check, CountedBy}
+use Rattle.tables.specs.Refusal.{Check, Decided}
 use Rattle.tables.specs.declared.Pattern.{Pattern}
-use Rattle.tables.specs.declared.Counted.{Counted}
+use Rattle.tables.specs.declared.Refusal.{Refusal}
 use Rattle.packets.specs.PatternPacket.{packet_pattern, pattern_checks, length_of, PacketPut}
 use Rattle.joining.specs.Join.{join_of, join_checks}
 use Rattle.rewriting.specs.Candidate.{Candidate}
@@ -24,8 +24,8 @@ joins_checks us es m =
     ++ room_for (length_of (join_of (packet_pattern us) (packet_pattern es))) m
 
 -- joining puts the packet of the join at the front of the room; a refusal leaves the room as it was
-pub record JoinsPackets (us es room₀ : List ℕ) (r : Counted) (room : List ℕ) : Type 0 where
-  pub says : CountedBy (joins_checks us es (length room₀)) r (λ c. PacketPut (join_of (packet_pattern us) (packet_pattern es)) room₀ c room) (room ≡ room₀)
+pub record JoinsPackets (us es room₀ : List ℕ) (r : Result ℕ Refusal) (room : List ℕ) : Type 0 where
+  pub says : Decided (joins_checks us es (length room₀)) r (λ c. PacketPut (join_of (packet_pattern us) (packet_pattern es)) room₀ c room) (room ≡ room₀)
 
 -- E is the candidate for Q by U, and it serves
 abbrev pub ServesBy : Pattern → Pattern → Pattern → Type 0
@@ -43,10 +43,10 @@ Rewritten Q U room₀ zero room = ((E : Pattern) → ServesBy Q U E → ⊥) × 
 Rewritten Q U room₀ (suc c) room = (E : Pattern) × ServesBy Q U E × PacketPut E room₀ (suc c) room
 
 -- what rewriting a packet by a packet answers; a refusal leaves the room as it was
-pub record RewritesPackets (qs us room₀ : List ℕ) (r : Counted) (room : List ℕ) : Type 0 where
-  pub says : CountedBy (rewrites_checks qs us (length room₀)) r (λ c. Rewritten (packet_pattern qs) (packet_pattern us) room₀ c room) (room ≡ room₀)
+pub record RewritesPackets (qs us room₀ : List ℕ) (r : Result ℕ Refusal) (room : List ℕ) : Type 0 where
+  pub says : Decided (rewrites_checks qs us (length room₀)) r (λ c. Rewritten (packet_pattern qs) (packet_pattern us) room₀ c room) (room ≡ room₀)
 
 -- reading a packet and writing it back: the same bytes at the front of the room
-pub record CopiesPacket (bs room₀ : List ℕ) (r : Counted) (room : List ℕ) : Type 0 where
-  pub says : CountedBy (pattern_checks bs ++ room_for (length bs) (length room₀)) r
+pub record CopiesPacket (bs room₀ : List ℕ) (r : Result ℕ Refusal) (room : List ℕ) : Type 0 where
+  pub says : Decided (pattern_checks bs ++ room_for (length bs) (length room₀)) r
       (λ c. (c ≡ length bs) × (room ≡ bs ++ drop c room₀)) (room ≡ room₀)

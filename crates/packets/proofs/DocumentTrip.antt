@@ -1,9 +1,9 @@
 -- Document packets there and back: what is written reads as the same document, what is read writes as the same bytes, and no second
 -- result of reading or of writing fits. Assumes nothing.
-use Rattle.tables.proofs.Kit.{ℕ, ◌+◌, ◌*◌, ◌<◌, ◌≤◌, ◌≡◌, refl, sym, ap, ap₂, ◌∙◌, subst, List, [], ◌∷◌, arith, length, get_or}
+use Rattle.tables.proofs.Kit.{ℕ, ◌+◌, ◌*◌, ◌<◌, ◌≤◌, ◌≡◌, refl, sym, ap, ap₂, ◌∙◌, subst, List, [], ◌∷◌, arith, length, get_or, Result}
 use Rattle.tables.specs.{Column.{blocks, column}, Document.{Document, node_count, ValidDocument, document_of}}
-use Rattle.tables.specs.{Refusal.{Check, Passes}, declared.Counted.Counted}
-use Rattle.tables.proofs.{Columns.{blocks_ext, column_length, column_at, column_ext, column_self}, Refusals.counted_unique, Outcomes.counted_both}
+use Rattle.tables.specs.{Refusal.{Check, Passes}, declared.Refusal.Refusal}
+use Rattle.tables.proofs.{Columns.{blocks_ext, column_length, column_at, column_ext, column_self}, Refusals.decided_unique, Outcomes.decided_both}
 use Rattle.halves.specs.Bytes.{Bytes, high, low, half}
 use Rattle.packets.specs.DocumentPacket.{node_bytes, document_packet, nodes_in, packet_document, document_checks, node_checks}
 use Rattle.packets.specs.{DocumentPacket.{ReadsBy, ReadsNodes, ReadsDocument, put_checks, WritesDocument}, Header.Sized}
@@ -98,27 +98,27 @@ document_read_then_written bs h n z w =
     )
 
 -- whatever is checked, no second result of reading fits
-reads_by_unique : (cs : List Check) (bs parents₀ labels₀ : List ℕ) (r q : Counted) (parents parents' labels labels' : List ℕ)
+reads_by_unique : (cs : List Check) (bs parents₀ labels₀ : List ℕ) (r q : Result ℕ Refusal) (parents parents' labels labels' : List ℕ)
     → ReadsBy cs bs parents₀ labels₀ r parents labels → ReadsBy cs bs parents₀ labels₀ q parents' labels' → (r ≡ q) × (parents ≡ parents') × (labels ≡ labels')
 reads_by_unique cs bs parents₀ labels₀ r q parents parents' labels labels' h k =
-    let a : r ≡ q = counted_unique cs r q _ _ _ _ (λ c e x y. x.0 ∙ sym y.0) h k in
-    let b : (parents ≡ parents') × (labels ≡ labels') = counted_both cs r q (λ c e x y. ((cc), (cc))) (λ x y. ((cc), (cc))) h k in
+    let a : r ≡ q = decided_unique cs r q _ _ _ _ (λ c e x y. x.0 ∙ sym y.0) h k in
+    let b : (parents ≡ parents') × (labels ≡ labels') = decided_both cs r q (λ c e x y. ((cc), (cc))) (λ x y. ((cc), (cc))) h k in
     (a, b.0, b.1)
 
 -- not of reading the nodes
-pub reads_nodes_unique : (bs parents₀ labels₀ : List ℕ) (r q : Counted) (parents parents' labels labels' : List ℕ)
+pub reads_nodes_unique : (bs parents₀ labels₀ : List ℕ) (r q : Result ℕ Refusal) (parents parents' labels labels' : List ℕ)
     → ReadsNodes bs parents₀ labels₀ r parents labels → ReadsNodes bs parents₀ labels₀ q parents' labels' → (r ≡ q) × (parents ≡ parents') × (labels ≡ labels')
 reads_nodes_unique bs parents₀ labels₀ = reads_by_unique (node_checks bs (length parents₀) (length labels₀)) bs parents₀ labels₀
 
 -- nor of reading the document
-pub reads_document_unique : (bs parents₀ labels₀ : List ℕ) (r q : Counted) (parents parents' labels labels' : List ℕ)
+pub reads_document_unique : (bs parents₀ labels₀ : List ℕ) (r q : Result ℕ Refusal) (parents parents' labels labels' : List ℕ)
     → ReadsDocument bs parents₀ labels₀ r parents labels → ReadsDocument bs parents₀ labels₀ q parents' labels' → (r ≡ q) × (parents ≡ parents') ×
     (labels ≡ labels')
 reads_document_unique bs parents₀ labels₀ = reads_by_unique (document_checks bs (length parents₀) (length labels₀)) bs parents₀ labels₀
 
 -- nor of writing it
-pub writes_document_unique : (d : Document) (before : List ℕ) (r q : Counted) (after after' : List ℕ)
+pub writes_document_unique : (d : Document) (before : List ℕ) (r q : Result ℕ Refusal) (after after' : List ℕ)
     → WritesDocument d before r after → WritesDocument d before q after' → (r ≡ q) × (after ≡ after')
 writes_document_unique d before r q after after' h k =
     let cs : List Check = put_checks d (length before) in
-    (counted_unique cs r q _ _ _ _ (λ c e x y. x.0 ∙ sym y.0) h k, counted_both cs r q (λ c e x y. cc) (λ x y. cc) h k)
+    (decided_unique cs r q _ _ _ _ (λ c e x y. x.0 ∙ sym y.0) h k, decided_both cs r q (λ c e x y. cc) (λ x y. cc) h k)

@@ -1,7 +1,9 @@
 -- Laws of bytes and of the 16-bit numbers that two of them make, and of lists that are a header followed by blocks of four bytes.
 -- Both packets are such lists. Assumes nothing.
 use Rattle.tables.proofs.Kit.{ℕ, zero, suc, ◌+◌, ◌*◌, ◌<◌, ◌≡◌, sym, ap, ap₂, ◌∙◌}
-use Rattle.tables.proofs.Kit.{List, [], ◌∷◌, ◌++◌, append-nil, append_assoc, arith, length, get_or, length-append, get_or-append-add}
+use Rattle.tables.proofs.Kit.{List, [], ◌∷◌, ◌++◌, append-nil, append_assoc, arith, length, get_or, take, drop, length-append, get_or-append-add}
+use Rattle.tables.proofs.Kit.{◌-◌, length-drop, take_all, get_or-take, get_or-drop}
+use Rattle.std.specs.Simd.{first_chunks}
 use Rattle.tables.specs.Column.{blocks, column}
 use Rattle.tables.proofs.Columns.{blocks_at, blocks_length, column_self}
 use Rattle.halves.specs.Bytes.{Bytes, high, low, half}
@@ -23,6 +25,27 @@ high_half bs h o = high_of_half (get_or bs o 0) (get_or bs (o + 1) 0) (h (o + 1)
 
 pub low_half : (bs : List ℕ) → Bytes bs → (o : ℕ) → low (half bs o) ≡ get_or bs (o + 1) 0
 low_half bs h o = low_of_half (get_or bs o 0) (get_or bs (o + 1) 0) (h (o + 1))
+
+-- entry r of row k, where a list is cut into rows of four
+row_at : (xs : List ℕ) (n k r : ℕ) → k < n → r < 4 → get_or (get_or (first_chunks 4 n xs) k []) r 0 ≡ get_or xs (4 * k + r) 0
+row_at xs zero k r l m = absurd (omega arith)
+row_at xs (suc n) zero r l m = get_or-take 4 xs r 0 m ∙ ap (λ j. get_or xs j 0) {x = r} {y = 4 * 0 + r} (omega arith)
+row_at xs (suc n) (suc k) r l m =
+    row_at (drop 4 xs) n k r (omega arith) m ∙ get_or-drop 4 xs (4 * k + r) 0 ∙ ap (λ j. get_or xs j 0) {x = 4 + (4 * k + r)} {y = 4 * suc k + r} (omega arith)
+
+-- the same, where the rows are all that follows a header of h entries
+pub row_read : (bs : List ℕ) {rows : List (List ℕ)} (h n k r i : ℕ) → rows ≡ first_chunks 4 n (take (length bs - h) (drop h bs)) → k < n → r < 4
+    → i ≡ h + (4 * k + r) → get_or (get_or rows k []) r 0 ≡ get_or bs i 0
+row_read bs h n k r i e l m f =
+    ap (λ x. get_or (get_or x k []) r 0) (e ∙ ap (first_chunks 4 n) (take_all (length bs - h) (drop h bs) (omega (arith, length-drop h bs))))
+    ∙ row_at (drop h bs) n k r l m
+    ∙ get_or-drop h bs (4 * k + r) 0
+    ∙ ap (λ j. get_or bs j 0) (sym f)
+
+pub row_half : (bs : List ℕ) {rows : List (List ℕ)} (h n k r i : ℕ) → rows ≡ first_chunks 4 n (take (length bs - h) (drop h bs)) → k < n → r < 3
+    → i ≡ h + (4 * k + r) → half (get_or rows k []) r ≡ half bs i
+row_half bs h n k r i e l m f =
+    ap₂ (λ x y. x * 256 + y) (row_read bs h n k r i e l (omega arith) f) (row_read bs h n k (r + 1) (i + 1) e l (omega arith) (omega arith))
 
 -- how long a header with n blocks of four is
 pub packet_length : (hs : List ℕ) (b : ℕ → List ℕ) (n : ℕ) → ((k : ℕ) → length (b k) ≡ 4) → length (hs ++ blocks b n) ≡ length hs + 4 * n

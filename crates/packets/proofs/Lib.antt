@@ -6,3 +6,4 @@ pub mod Reading
 pub mod RoundTrip
 pub mod DocumentTrip
 pub mod Putting
+pub mod Turns

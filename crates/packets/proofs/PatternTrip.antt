@@ -1,13 +1,13 @@
 -- Pattern packets there and back: what is written reads as the same pattern, what is read writes as the same bytes, and no second result
 -- fits either call. Assumes nothing.
-use Rattle.tables.proofs.Kit.{ℕ, ◌+◌, ◌*◌, ◌/◌, ◌<◌, ◌≡◌, refl, sym, ap₂, ◌∙◌, List, [], ◌∷◌, arith, length, get_or}
+use Rattle.tables.proofs.Kit.{ℕ, ◌+◌, ◌*◌, ◌/◌, ◌<◌, ◌≡◌, refl, sym, ◌∙◌, List, [], ◌∷◌, arith, length, get_or, Result}
 use Rattle.tables.specs.{Column.blocks, Pattern.{Shape, shape_of, pattern_of, ValidShape, ValidPattern, Clean}}
-use Rattle.tables.specs.{Refusal.{Check, Passes}, declared.Pattern.Pattern, declared.Counted.Counted}
+use Rattle.tables.specs.{Refusal.{Check, Passes}, declared.Pattern.Pattern, declared.Refusal.Refusal}
 use Rattle.tables.proofs.{Columns.blocks_ext, Rules.{Agree, pattern_of_shape, agree_sym, agree_trans, pattern_of_agree}}
-use Rattle.tables.proofs.{Refusals.{decided_unique, counted_unique}, Agreement.valid_agree, Outcomes.{decided_both, counted_both}}
+use Rattle.tables.proofs.{Refusals.decided_unique, Agreement.valid_agree, Outcomes.decided_both}
 use Rattle.halves.specs.Bytes.{Bytes, high, low, half}
 use Rattle.packets.specs.PatternPacket.{pattern_length, step_bytes, pattern_packet, packet_shape, packet_pattern, pattern_checks}
-use Rattle.packets.specs.{PatternPacket.{ReadsPattern, write_checks, WritesPattern}, Header.Sized, declared.PatternRead.PatternRead}
+use Rattle.packets.specs.{PatternPacket.{ReadsPattern, write_checks, WritesPattern}, Header.Sized}
 use Rattle.packets.proofs.{Views.Read, Halves.{half_of_bytes, high_half, low_half, packet_length, packet_at_lem, packet_half, four, packet_self}}
 
 -- the four bytes before the steps
@@ -100,15 +100,12 @@ pub read_then_written : (bs : List ℕ) → Bytes bs → Read bs → pattern_pac
 read_then_written bs h r = pattern_packet_agree (pattern_of_shape (packet_shape bs)) ∙ packet_of_shape bs h r.head.rows r.head.sized r.head.version
 
 -- no second result of reading fits
-pub reads_pattern_unique : (bs : List ℕ) (r q : PatternRead) → ReadsPattern bs r → ReadsPattern bs q → r ≡ q
-reads_pattern_unique bs r q h k =
-    ap₂ (λ x y. record { answer = x; pattern = y })
-    (decided_unique (pattern_checks bs) r.answer q.answer _ _ _ _ h k)
-    (decided_both (pattern_checks bs) r.answer q.answer (λ x y. x ∙ sym y) (λ x y. x ∙ sym y) h k)
+pub reads_pattern_unique : (bs : List ℕ) (r q : Result Pattern Refusal) → ReadsPattern bs r → ReadsPattern bs q → r ≡ q
+reads_pattern_unique bs r q h k = decided_unique (pattern_checks bs) r q _ _ _ _ (λ p v x y. x ∙ sym y) h k
 
 -- no second result of writing fits
-pub writes_pattern_unique : (p : Pattern) (before : List ℕ) (r q : Counted) (after after' : List ℕ)
+pub writes_pattern_unique : (p : Pattern) (before : List ℕ) (r q : Result ℕ Refusal) (after after' : List ℕ)
     → WritesPattern p before r after → WritesPattern p before q after' → (r ≡ q) × (after ≡ after')
 writes_pattern_unique p before r q after after' h k =
     let cs : List Check = write_checks p (length before) in
-    (counted_unique cs r q _ _ _ _ (λ c e x y. x.0 ∙ sym y.0) h k, counted_both cs r q (λ c e x y. cc) (λ x y. cc) h k)
+    (decided_unique cs r q _ _ _ _ (λ c e x y. x.0 ∙ sym y.0) h k, decided_both cs r q (λ c e x y. cc) (λ x y. cc) h k)

@@ -1,15 +1,14 @@
--- The nodes of a document packet where the header is right, and the loop that copies a list. Assumes nothing.
-use Rattle.tables.proofs.Kit.{ℕ, ◌+◌, ◌*◌, ◌/◌, ◌≤◌, ◌<◌, ◌≡◌, sym, ap, ap₂, ◌∙◌, List, ◌++◌, arith}
-use Rattle.tables.proofs.Kit.{add-one, length, get_or, set, take, drop, length-take-le, take-suc, take_at}
-use Rattle.tables.specs.{Column.column, Document.document_of, Refusal.{Refuses, CountedBy}, declared.Refusal.Refusal, declared.Counted.Counted}
-use Rattle.tables.proofs.{Columns.{column_length, put_next}, Outcomes.last_holds}
+-- The nodes of a document packet where the header is right. Assumes nothing.
+use Rattle.tables.proofs.Kit.{ℕ, ◌+◌, ◌*◌, ◌/◌, ◌≤◌, ◌≡◌, sym, ap, ap₂, ◌∙◌, List, ◌++◌, arith, take, take_at, Result}
+use Rattle.tables.specs.{Column.column, Document.document_of, Refusal.{Refuses, Decided}, declared.Refusal.Refusal}
+use Rattle.tables.proofs.{Columns.column_length, Outcomes.last_holds}
 use Rattle.halves.specs.Bytes.{half}
 use Rattle.packets.specs.{Header.head_checks, DocumentPacket.{nodes_in, packet_document, node_checks}}
 use Rattle.packets.proofs.Views.{head_of, nodes_few}
 
 -- what `rows_in` answers
-abbrev pub Headed : List ℕ → ℕ → ℕ → Counted → Type 0
-Headed bs extra most r = CountedBy (head_checks bs extra most) r (λ n. n ≡ half bs 1 / 4) (Unit {0})
+abbrev pub Headed : List ℕ → ℕ → ℕ → Result ℕ Refusal → Type 0
+Headed bs extra most r = Decided (head_checks bs extra most) r (λ n. n ≡ half bs 1 / 4) (Unit {0})
 
 -- the fronts of two lists that begin with a packet's document are that document
 pub document_fronts : (bs xs ys d e : List ℕ) (n : ℕ) → n ≡ nodes_in bs → xs ≡ (packet_document bs).parents ++ d → ys ≡ (packet_document bs).labels ++ e
@@ -25,9 +24,3 @@ pub nodes_refused : (bs : List ℕ) (a b : ℕ) → 2048 ≤ a → 2048 ≤ b �
 nodes_refused bs a b f g r h =
     last_holds (head_checks bs 0 2048) (record { asks = (nodes_in bs ≤ a) × (nodes_in bs ≤ b); gives = 5 }) r
     (λ p. let few = nodes_few (head_of bs 0 2048 p) in (omega (arith, few), omega (arith, few))) h
-
--- a turn of the loop that copies
-pub copy_next : (s d : List ℕ) (k : ℕ) → k < length s → k < length d → set (take k s ++ drop k d) k (get_or s k 0) ≡ take (k + 1) s ++ drop (k + 1) d
-copy_next s d k f g =
-    put_next (take k s) d k (get_or s k 0) (length-take-le k s (omega arith)) g
-    ∙ ap (λ xs. xs ++ drop (k + 1) d) (sym (take-suc s k 0 f) ∙ ap (λ j. take j s) (sym (add-one k)))

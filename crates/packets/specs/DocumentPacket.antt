@@ -14,12 +14,12 @@
 --   put_checks       what writing checks, in order
 --   WritesDocument  what writing answers and leaves in the buffer
 -- Assumes nothing.
-use Rattle.std.specs.Prelude.{ℕ, ◌+◌, ◌*◌, ◌/◌, ◌≤◌, ◌≡◌, List, [], ◌∷◌, ◌++◌, length, get_or, drop}
+use Rattle.std.specs.Prelude.{ℕ, ◌+◌, ◌*◌, ◌/◌, ◌≤◌, ◌≡◌, List, [], ◌∷◌, ◌++◌, length, get_or, drop, Result}
 use Rattle.tables.specs.Column.{blocks, column}
 use Rattle.tables.specs.Checks.{document_right, room_for}
 use Rattle.tables.specs.Document.{Document, node_count, document_of}
-use Rattle.tables.specs.Refusal.{Check, CountedBy}
-use Rattle.tables.specs.declared.Counted.{Counted}
+use Rattle.tables.specs.Refusal.{Check, Decided}
+use Rattle.tables.specs.declared.Refusal.{Refusal}
 use Rattle.halves.specs.Bytes.{high, low, half}
 use Rattle.packets.specs.Header.{head_checks}
 
@@ -57,18 +57,18 @@ abbrev pub node_checks : List ℕ → ℕ → ℕ → List Check
 node_checks bs a b = head_checks bs 0 2048 ++ lists_check bs a b
 
 -- the nodes stand at the front of both lists and are counted where these checks hold; a refusal leaves both lists as they were
-abbrev pub ReadsBy : List Check → List ℕ → List ℕ → List ℕ → Counted → List ℕ → List ℕ → Type 0
+abbrev pub ReadsBy : List Check → List ℕ → List ℕ → List ℕ → Result ℕ Refusal → List ℕ → List ℕ → Type 0
 ReadsBy checks bs parents₀ labels₀ r parents labels =
-    CountedBy checks r (λ n.
+    Decided checks r (λ n.
     (n ≡ nodes_in bs) × (parents ≡ (packet_document bs).parents ++ drop n parents₀) × (labels ≡ (packet_document bs).labels ++ drop n labels₀))
     ((parents ≡ parents₀) × (labels ≡ labels₀))
 
 -- reading without the rules
-abbrev pub ReadsNodes : List ℕ → List ℕ → List ℕ → Counted → List ℕ → List ℕ → Type 0
+abbrev pub ReadsNodes : List ℕ → List ℕ → List ℕ → Result ℕ Refusal → List ℕ → List ℕ → Type 0
 ReadsNodes bs parents₀ labels₀ = ReadsBy (node_checks bs (length parents₀) (length labels₀)) bs parents₀ labels₀
 
 -- reading with them
-abbrev pub ReadsDocument : List ℕ → List ℕ → List ℕ → Counted → List ℕ → List ℕ → Type 0
+abbrev pub ReadsDocument : List ℕ → List ℕ → List ℕ → Result ℕ Refusal → List ℕ → List ℕ → Type 0
 ReadsDocument bs parents₀ labels₀ = ReadsBy (document_checks bs (length parents₀) (length labels₀)) bs parents₀ labels₀
 
 -- the length of a document's packet
@@ -80,6 +80,6 @@ abbrev pub put_checks : Document → ℕ → List Check
 put_checks d m = document_right d ++ room_for (size_of d) m
 
 -- writing puts the packet at the front of the buffer and counts its bytes; a refusal leaves the buffer as it was
-abbrev pub WritesDocument : Document → List ℕ → Counted → List ℕ → Type 0
+abbrev pub WritesDocument : Document → List ℕ → Result ℕ Refusal → List ℕ → Type 0
 WritesDocument d before r after =
-    CountedBy (put_checks d (length before)) r (λ c. (c ≡ size_of d) × (after ≡ document_packet d ++ drop c before)) (after ≡ before)
+    Decided (put_checks d (length before)) r (λ c. (c ≡ size_of d) × (after ≡ document_packet d ++ drop c before)) (after ≡ before)

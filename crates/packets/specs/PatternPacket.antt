@@ -12,17 +12,15 @@
 --   PacketPut       a packet at the front of a buffer
 --   WritesPattern   what writing answers and leaves in the buffer
 -- Assumes nothing.
-use Rattle.std.specs.Prelude.{ℕ, ◌+◌, ◌*◌, ◌/◌, ◌≡◌, List, [], ◌∷◌, ◌++◌, length, get_or, drop}
+use Rattle.std.specs.Prelude.{ℕ, ◌+◌, ◌*◌, ◌/◌, ◌≡◌, List, [], ◌∷◌, ◌++◌, length, get_or, drop, Result}
 use Rattle.tables.specs.Column.{blocks}
-use Rattle.tables.specs.Pattern.{Shape, shape_of, pattern_of, zero_pattern}
+use Rattle.tables.specs.Pattern.{Shape, shape_of, pattern_of}
 use Rattle.tables.specs.Checks.{pattern_right, room_for}
-use Rattle.tables.specs.Refusal.{Check, Decided, CountedBy}
+use Rattle.tables.specs.Refusal.{Check, Decided}
 use Rattle.tables.specs.declared.Pattern.{Pattern}
-use Rattle.tables.specs.declared.Counted.{Counted}
+use Rattle.tables.specs.declared.Refusal.{Refusal}
 use Rattle.halves.specs.Bytes.{high, low, half}
 use Rattle.packets.specs.Header.{head_checks}
-use Rattle.packets.specs.declared.PatternRead.{PatternRead}
-use Rattle.packets.specs.declared.TwoRead.{TwoRead}
 
 -- what the length field of a pattern packet holds: one byte for the output step and four for each step
 abbrev pub pattern_length : ℕ → ℕ
@@ -54,13 +52,13 @@ packet_pattern bs = pattern_of (packet_shape bs)
 abbrev pub pattern_checks : List ℕ → List Check
 pattern_checks bs = head_checks bs 1 64 ++ pattern_right (packet_pattern bs)
 
--- reading gives the pattern of the packet, or a refusal with the zero pattern beside it
-abbrev pub ReadsPattern : List ℕ → PatternRead → Type 0
-ReadsPattern bs r = Decided (pattern_checks bs) r.answer (r.pattern ≡ packet_pattern bs) (r.pattern ≡ zero_pattern)
+-- reading gives the pattern of the packet, or a refusal
+abbrev pub ReadsPattern : List ℕ → Result Pattern Refusal → Type 0
+ReadsPattern bs r = Decided (pattern_checks bs) r (λ p. p ≡ packet_pattern bs) (Unit {0})
 
 -- reading two packets gives both patterns, or the first refusal: of the first packet, then of the second
-pub record ReadsTwo (bs cs : List ℕ) (r : TwoRead) : Type 0 where
-  pub says : Decided (pattern_checks bs ++ pattern_checks cs) r.answer ((r.first ≡ packet_pattern bs) × (r.second ≡ packet_pattern cs)) (Unit {0})
+pub record ReadsTwo (bs cs : List ℕ) (r : Result (Pattern × Pattern) Refusal) : Type 0 where
+  pub says : Decided (pattern_checks bs ++ pattern_checks cs) r (λ t. (t.0 ≡ packet_pattern bs) × (t.1 ≡ packet_pattern cs)) (Unit {0})
 
 -- the length of a pattern's packet
 abbrev pub length_of : Pattern → ℕ
@@ -75,5 +73,5 @@ abbrev pub PacketPut : Pattern → List ℕ → ℕ → List ℕ → Type 0
 PacketPut p before c after = (c ≡ length_of p) × (after ≡ pattern_packet (shape_of p) ++ drop c before)
 
 -- writing puts the packet at the front of the buffer and counts its bytes; a refusal leaves the buffer as it was
-abbrev pub WritesPattern : Pattern → List ℕ → Counted → List ℕ → Type 0
-WritesPattern p before r after = CountedBy (write_checks p (length before)) r (λ c. PacketPut p before c after) (after ≡ before)
+abbrev pub WritesPattern : Pattern → List ℕ → Result ℕ Refusal → List ℕ → Type 0
+WritesPattern p before r after = Decided (write_checks p (length before)) r (λ c. PacketPut p before c after) (after ≡ before)

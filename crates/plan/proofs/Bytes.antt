@@ -1,54 +1,102 @@
 -- Tables that a byte of a number looks up: how one is filled, and what the bytes find. Assumes nothing.
 use Rattle.tables.proofs.Kit.{ℕ, zero, suc, ◌+◌, ◌*◌, ◌-◌, ◌/◌, ◌%◌, ◌^◌, ◌≤◌, ◌<◌, ◌≡◌, refl, sym, ap, ◌∙◌, subst}
 use Rattle.tables.proofs.Kit.{◌⊎◌, inl, inr, ◌≢◌, ◌↔◌, List, arith, pow-succ', ℕ_discrete, dec_lt, dec_le, bit_or, pow_mono}
-use Rattle.tables.proofs.Kit.{length, get_or, set, replicate, length-set, length-replicate, get_or-set_same, get_or-set_other}
+use borrow.Rule.Slice.PartMut.{put_mid, mid_of}
+use Rattle.tables.proofs.Kit.{
+  ◌++◌,
+  length,
+  get_or,
+  take,
+  drop,
+  replicate,
+  length-append,
+  length-drop,
+  length-take-le,
+  get_or-take,
+  get_or-drop,
+  get_or-append,
+  get_or-append-add,
+  get_or-eq_default,
+  length-replicate,
+}
+use Rattle.std.specs.Int.{w64, to_le_bytes}
 use Rattle.tables.specs.Bits.{bit, Marks}
 use Rattle.tables.proofs.Bits.{bit_shr, bit_mod, bit_in, bit_least, set_here, set_other}
 use Rattle.tables.proofs.{Marks.{marks_none, marks_to, marks_or, with_top, bits_lt}, MarkTables.zeros_at}
 use Rattle.plan.specs.Leading.{Doubled, Spread, Led, looked_up}
 
--- a table that is being doubled: u entries are written
-pub record Doubling (before : List ℕ) (base top m u : ℕ) (after : List ℕ) : Type 0 where
-  pub same_length : length after ≡ length before
-  pub joined : (k : ℕ) → k < u → get_or after (base + top + k) 0 ≡ bit_or (get_or before (base + k) 0) m
-  pub early : (k : ℕ) → k < base + top → get_or after k 0 ≡ get_or before k 0
-  pub late : (k : ℕ) → base + top + u ≤ k → get_or after k 0 ≡ get_or before k 0
+-- a part is put back in its place, entry by entry
+module _ (before part : List ℕ) (base k : ℕ) (room : base + k ≤ length before) (long : length part ≡ k) where
+  abbrev whole : List ℕ
+  whole = put_mid base k before part
 
-module _ (before : List ℕ) (base top m : ℕ) where
-  -- no entry is written
-  pub doubling_none : Doubling before base top m 0 before
-  doubling_none = record { same_length = refl; joined = λ k h. absurd (omega arith); early = λ k h. refl; late = λ k h. refl }
+  front : length (take base before) ≡ base
+  front = length-take-le base before (omega arith)
 
-  -- one entry more
-  pub doubling_more : (u : ℕ) (after : List ℕ) → u < top → base + top + u < length before → Doubling before base top m u after
-      → Doubling before base top m (u + 1) (set after (base + top + u) (bit_or (get_or after (base + u) 0) m))
-  doubling_more u after l h d =
-      record {
-        same_length = simp length-set d.same_length;
-        joined = λ k g. here k g (ℕ_discrete k u);
-        early = λ k g. other k (λ e. omega arith) ∙ d.early k g;
-        late = λ k g. other k (λ e. omega arith) ∙ d.late k (omega arith);
-      }
-    where
-      other : (k : ℕ) → k ≢ base + top + u → get_or (set after (base + top + u) (bit_or (get_or after (base + u) 0) m)) k 0 ≡ get_or after k 0
-      other k n = rw get_or-set_other
+  whole_length : length whole ≡ length before
+  whole_length = simp (length-append, length-drop) (omega (arith, front))
 
-      here : (k : ℕ) → k < u + 1 → Dec (k ≡ u)
-          → get_or (set after (base + top + u) (bit_or (get_or after (base + u) 0) m)) (base + top + k) 0 ≡ bit_or (get_or before (base + k) 0) m
-      here k g (yes e) =
-          let i : base + top + u < length after = omega (arith, d.same_length) in
-          rw (e, get_or-set_same) (ap (λ x. bit_or x m) (d.early (base + u) (omega arith)))
-      here k g (no n) = other (base + top + k) (λ e. n (omega arith)) ∙ d.joined k (omega arith)
+  in_part : (j : ℕ) → j < k → get_or whole (base + j) 0 ≡ get_or part j 0
+  in_part j h =
+      let e : base + j ≡ length (take base before) + j = omega (arith, front) in
+      ap (λ q. get_or whole q 0) e ∙ get_or-append-add (take base before) (part ++ drop k (drop base before)) j 0
+      ∙ get_or-append part (drop k (drop base before)) 0 j (omega arith)
 
-  -- all are written
-  pub doubling_all : (u : ℕ) (after : List ℕ) → u ≡ top → Doubling before base top m u after → Doubled before base top m after
-  doubling_all u after e d =
-      record {
-        same_length = d.same_length;
-        joined = λ k h. d.joined k (omega arith);
-        early = d.early;
-        late = λ k h. d.late k (omega arith);
-      }
+  in_front : (q : ℕ) → q < base → get_or whole q 0 ≡ get_or before q 0
+  in_front q h = get_or-append (take base before) (part ++ drop k (drop base before)) 0 q (omega (arith, front)) ∙ get_or-take base before q 0 h
+
+  in_back : (q : ℕ) → base + k ≤ q → get_or whole q 0 ≡ get_or before q 0
+  in_back q h =
+      let j : ℕ = q - base - k in
+      let e : q ≡ length (take base before) + (length part + j) = omega (arith, front) in
+      let f : base + (k + j) ≡ q = omega arith in
+      ap (λ q. get_or whole q 0) e ∙ get_or-append-add (take base before) (part ++ drop k (drop base before)) (length part + j) 0
+      ∙ get_or-append-add part (drop k (drop base before)) j 0 ∙ get_or-drop k (drop base before) j 0 ∙ get_or-drop base before (k + j) 0
+      ∙ ap (λ q. get_or before q 0) f
+
+-- a block that is doubled by itself is doubled in its table
+pub doubled_in : (before block : List ℕ) (base top m k : ℕ) → k ≡ 2 * top → base + k ≤ length before → Doubled (mid_of base k before) 0 top m block
+    → Doubled before base top m (put_mid base k before block)
+doubled_in before block base top m k w room d =
+    let e : length block ≡ k = d.same_length ∙ length-take-le k (drop base before) (omega (arith, length-drop base before)) in
+    let old : (q : ℕ) → q < k → get_or (mid_of base k before) q 0 ≡ get_or before (base + q) 0
+    = λ q h. get_or-take k (drop base before) q 0 h ∙ get_or-drop base before q 0 in
+    record {
+      same_length = whole_length before block base k room e;
+      joined = λ u h.
+          let f : base + top + u ≡ base + (0 + top + u) = omega arith in
+          let g : base + (0 + u) ≡ base + u = omega arith in
+          ap (λ q. get_or (put_mid base k before block) q 0) f ∙ in_part before block base k room e (0 + top + u) (omega arith)
+          ∙ d.joined u h ∙ ap (λ x. bit_or x m) (old (0 + u) (omega arith) ∙ ap (λ q. get_or before q 0) g);
+      early = λ q h. early q h (dec_lt q base) e old;
+      late = λ q h. in_back before block base k room e q (omega arith);
+    }
+  where
+    early : (q : ℕ) → q < base + top → Dec (q < base) → length block ≡ k
+        → ((q : ℕ) → q < k → get_or (mid_of base k before) q 0 ≡ get_or before (base + q) 0)
+        → get_or (put_mid base k before block) q 0 ≡ get_or before q 0
+    early q h (yes l) e old = in_front before block base k room e q l
+    early q h (no n) e old =
+        let j : ℕ = q - base in
+        let f : q ≡ base + j = omega arith in
+        ap (λ q. get_or (put_mid base k before block) q 0) f ∙ in_part before block base k room e j (omega arith) ∙ d.early j (omega arith)
+        ∙ old j (omega arith) ∙ ap (λ q. get_or before q 0) (sym f)
+
+-- a block is its first half, as it was, and that half with m joined to each entry
+pub doubled_halves : (old new new' : List ℕ) (top m : ℕ) → length old ≡ top → length new ≡ top → length new' ≡ top
+    → ((u : ℕ) → u < top → get_or new' u 0 ≡ bit_or (get_or old u 0) m) → Doubled (old ++ new) 0 top m (old ++ new')
+doubled_halves old new new' top m a b c f =
+    record {
+      same_length = simp length-append (omega arith);
+      joined = λ u h.
+          let e : 0 + top + u ≡ length old + u = omega arith in
+          let g : u ≡ 0 + u = omega arith in
+          ap (λ q. get_or (old ++ new') q 0) e ∙ get_or-append-add old new' u 0 ∙ f u h
+          ∙ ap (λ x. bit_or x m) (sym (get_or-append old new 0 u (omega arith)) ∙ ap (λ q. get_or (old ++ new) q 0) g);
+      early = λ q h. get_or-append old new' 0 q (omega arith) ∙ sym (get_or-append old new 0 q (omega arith));
+      late = λ q h.
+          get_or-eq_default (old ++ new') 0 (simp length-append (omega arith)) ∙ sym (get_or-eq_default (old ++ new) 0 (simp length-append (omega arith)));
+    }
 
 -- the steps to which the bits of v lead, from 8c on
 abbrev Entry : (ℕ → ℕ → Type 0) → ℕ → ℕ → ℕ → Type 0
@@ -139,10 +187,13 @@ spread_iff R Q n table f t =
           (t.entry c v hc hv h);
     }
 
--- a row of numbers whose bits are a relation has that relation's table
-pub spread_marks : (R : ℕ → ℕ → Type 0) (n : ℕ) (to table : List ℕ) → ((t : ℕ) → Marks (get_or to t 0) (R t))
-    → Spread (λ t s. bit (get_or to t 0) s ≡ 1) n table → Spread R n table
-spread_marks R n to table m = spread_iff (λ t s. bit (get_or to t 0) s ≡ 1) R n table (λ t s l. ((m t).only s, (m t).put s))
+-- numbers whose bits are a relation have that relation's table
+pub spread_marks : (R : ℕ → ℕ → Type 0) (n : ℕ) (to table : List ℕ) → length (take n to) ≡ n → ((t : ℕ) → Marks (get_or to t 0) (R t))
+    → Spread (λ t s. bit (get_or (take n to) t 0) s ≡ 1) (length (take n to)) table → Spread R n table
+spread_marks R n to table e m h =
+    spread_iff (λ t s. bit (get_or (take n to) t 0) s ≡ 1) R n table
+    (λ t s l. let w = get_or-take n to t 0 l in (λ b. (m t).only s (rw w at b), λ q. rw w ((m t).put s q)))
+    (rw e at h)
 
 module _ (R : ℕ → ℕ → Type 0) (n : ℕ) (table : List ℕ) (x : ℕ) (t : Spread R n table) (few : (b : ℕ) → bit x b ≡ 1 → b < n) where
   -- byte c of x has the bits of x from 8c on
@@ -184,3 +235,15 @@ pub look_up_led : (R : ℕ → ℕ → Type 0) (n : ℕ) (table : List ℕ) (x :
 look_up_led R n table x t h few =
     marks_to (looked_up table x 8) (LedTo R n table x t few 8) (Led R x)
     (λ s q. (q.0, q.2, q.3)) (λ s q. (q.0, bit_in x 64 q.0 h q.1, q.1, q.2)) (led_to R n table x t few 8 (omega arith))
+
+-- the bytes of a number, the lowest first
+pub byte_of : (x c : ℕ) → c < 8 → get_or (to_le_bytes w64 x) c 0 ≡ x / 2 ^ (8 * c) % 256
+byte_of x zero h = omega arith
+byte_of x (suc zero) h = refl
+byte_of x (suc (suc zero)) h = refl
+byte_of x (suc (suc (suc zero))) h = refl
+byte_of x (suc (suc (suc (suc zero)))) h = refl
+byte_of x (suc (suc (suc (suc (suc zero))))) h = refl
+byte_of x (suc (suc (suc (suc (suc (suc zero)))))) h = refl
+byte_of x (suc (suc (suc (suc (suc (suc (suc zero))))))) h = refl
+byte_of x (suc (suc (suc (suc (suc (suc (suc (suc c)))))))) h = absurd (omega arith)

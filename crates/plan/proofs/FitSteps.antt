@@ -1,11 +1,11 @@
 -- The steps that are missing below a row, the steps that lack one of them, found by a table, a shift or groups, and the steps that fit. Assumes nothing.
-use Rattle.tables.proofs.Kit.{ℕ, ◌+◌, ◌/◌, ◌^◌, ◌≡◌, sym, subst, ◌⊎◌, inl, inr, ⊎_elim, List, arith, ℕ_discrete, bit_or, bit_and, get_or}
+use Rattle.tables.proofs.Kit.{ℕ, ◌+◌, ◌/◌, ◌^◌, ◌≡◌, sym, subst, ◌⊎◌, inl, inr, ⊎_elim, List, arith, ℕ_discrete, bit_or, bit_and}
 use Rattle.tables.specs.{Bits.{bit, Marks}, Tree.Child, Pattern.Shape}
 use Rattle.tables.proofs.Bits.{bit_pow, some_bit}
 use Rattle.tables.proofs.Marks.{bit_cases, marks_none, marks_bits, marks_to, marks_one, marks_or, marks_and, marks_without, marks_lt}
 use Rattle.placing.specs.Placement.{LabelFits}
 use Rattle.plan.specs.Steps.{mask_for, without, OfLabel, OfAxis, SetsOf, Missing, Lacks, Lacking, FitsBy}
-use Rattle.plan.specs.{Leading.{ToParent, Led, Spread, looked_up, LaterChild, Grouped, Reached}, declared.Sets.Sets}
+use Rattle.plan.specs.{Leading.{ToParent, Led, Spread, looked_up, LaterChild, fork, Grouped, Reached}, declared.{edges.Sets.Sets, forks.Fork.Fork}}
 use Rattle.plan.proofs.{Bytes.look_up_led, Shifts.{only_next, shift_down, shift_in}, Groups.bit_some}
 
 module _ (A : Shape) (sets : Sets) (g : SetsOf A sets) (c d : ℕ) where
@@ -66,25 +66,25 @@ module _ (A : Shape) (sets : Sets) (g : SetsOf A sets) (c d : ℕ) where
     }
 
     -- by a shift and the groups
-    module _ (forks later : List ℕ) (n : ℕ) (p : Grouped A n forks later) (r : ℕ) (mr : Marks r (Reached forks later x n)) where
-      from_group : (s : ℕ) → Reached forks later x n s → Lacks A c d s
+    module _ (forks : List Fork) (n : ℕ) (p : Grouped A n forks) (r : ℕ) (mr : Marks r (Reached forks x n)) where
+      from_group : (s : ℕ) → Reached forks x n s → Lacks A c d s
       from_group s q =
-          let e = p.each q.0 q.1 in let y = get_or later q.0 0 in
+          let e = p.each q.0 q.1 in let y = (fork forks q.0).later in
           let t = some_bit (bit_and x y) q.2 in
           let w = (marks_and x y (Missing A c d) (LaterChild A e.0) m e.2).only t.0 t.1 in
           let z : s ≡ e.0 = (marks_one e.0).only s (subst (λ (u : ℕ). bit u s ≡ 1) e.1 q.3) in
           (t.0, subst (λ (u : ℕ). Child A.tree u t.0) (sym z) w.1.0, w.0.2)
 
-      to_group : (s : ℕ) (q : Lacks A c d s) → (s + 1 ≡ q.0 → ⊥) → Reached forks later x n s
+      to_group : (s : ℕ) (q : Lacks A c d s) → (s + 1 ≡ q.0 → ⊥) → Reached forks x n s
       to_group s q e =
-          let a = p.all s q.0 (q.1, e) in let y = get_or later a.0 0 in
+          let a = p.all s q.0 (q.1, e) in let y = (fork forks a.0).later in
           let b = (marks_and x y (λ u. bit x u ≡ 1) (λ u. bit y u ≡ 1) (marks_bits x) (marks_bits y)).put q.0 (lost s q, a.3) in
           (a.0, a.1, bit_some _ q.0 b, subst (λ (u : ℕ). bit u s ≡ 1) (sym a.2) (bit_pow s))
 
       pub lacking_grouped : (mask : ℕ) → Lacking A mask c d (bit_or (bit_and x sets.next / 2 ^ 1) r)
       lacking_grouped mask =
           let y = bit_and x sets.next / 2 ^ 1 in
-          let w = marks_or y r (λ s. bit y s ≡ 1) (Reached forks later x n) (marks_bits y) mr in
+          let w = marks_or y r (λ s. bit y s ≡ 1) (Reached forks x n) (marks_bits y) mr in
           record {
             sound = λ s b. ⊎_elim (λ e. led_lacks s (shift_down A g.valid sets.next sets.forked g.next g.forked x s e)) (from_group s)
                 (w.only s b);

@@ -3,8 +3,8 @@
 use Rattle.tables.proofs.Kit.{ℕ, ◌+◌, ◌/◌, ◌%◌, ◌^◌, ◌<◌, ◌≡◌, sym, ap, ◌∙◌, subst, ◌≢◌, List, arith, ℕ_discrete}
 use Rattle.tables.proofs.Kit.{length, get_or, set, replicate, get_or-set_same, get_or-set_other, bit_and, bit_or}
 use Rattle.tables.specs.{Bits.{bit, Marks}, Pattern.Shape}
-use Rattle.tables.proofs.{Bits.{set_here, set_other}, Marks.{marks_none, marks_to, marks_one, marks_and}, MarkTables.{zeros_at, Keyed, keyed_all}}
-use Rattle.plan.specs.{Steps.{OfLabel, Labelled, Forked}, Leading.ToParent}
+use Rattle.tables.proofs.{Bits.{set_here, set_other}, Marks.{marks_none, marks_to, marks_one, marks_and}, MarkTables.{zeros_at}}
+use Rattle.plan.specs.{Steps.{OfLabel, Labelled, Forked}, Leading.ToParent, declared.labels.Labels.Labels}
 
 -- entry u has the one number f u, where u is from 1 on and below k
 pub record Pointed (f : ℕ → ℕ) (k : ℕ) (table : List ℕ) : Type 0 where
@@ -54,24 +54,16 @@ module _ (f : ℕ → ℕ) where
       go u l h n (no z) (no w) = set_other x (f k) (f u) w ∙ m.has u l (omega arith) n
 
 module _ (A : Shape) where
-  -- the tables of all steps, by the low byte of the label and by the high byte
-  pub labelled_all : (low high : List ℕ) → Keyed (λ s. A.label s % 256) 0 A.tree.size low → Keyed (λ s. A.label s / 256) 0 A.tree.size high
-      → Labelled A low high
-  labelled_all low high m n = record {
-    lows = keyed_all (λ s. A.label s % 256) A.tree.size low m;
-    highs = keyed_all (λ s. A.label s / 256) A.tree.size high n;
-  }
-
   -- the two bytes tell whether a label fits
-  pub of_label : (low high : List ℕ) (l : ℕ) → Labelled A low high → Marks (bit_and (get_or low (l % 256) 0) (get_or high (l / 256) 0)) (OfLabel A l)
-  of_label low high l t =
-      let x = get_or low (l % 256) 0 in let y = get_or high (l / 256) 0 in
+  pub of_label : (x : Labels) (l : ℕ) → Labelled A x → Marks (bit_and (get_or x.low (l % 256) 0) (get_or x.high (l / 256) 0)) (OfLabel A l)
+  of_label x l t =
+      let y = get_or x.low (l % 256) 0 in let z = get_or x.high (l / 256) 0 in
       let Low : ℕ → Type 0 = λ s. (s < A.tree.size) × (A.label s % 256 ≡ l % 256) in
       let High : ℕ → Type 0 = λ s. (s < A.tree.size) × (A.label s / 256 ≡ l / 256) in
-      marks_to (bit_and x y) (λ s. Low s × High s) (OfLabel A l)
+      marks_to (bit_and y z) (λ s. Low s × High s) (OfLabel A l)
       (λ s q. (q.0.0, record { same = omega (arith, q.0.1, q.1.1) }))
       (λ s q. ((q.0, omega (arith, q.1.same)), (q.0, omega (arith, q.1.same))))
-      (marks_and x y Low High (t.lows (l % 256)) (t.highs (l / 256)))
+      (marks_and y z Low High (t.lows (l % 256)) (t.highs (l / 256)))
 
   -- the steps on which another step than the next hangs
   pub forks_all : (x : ℕ) → Forking A.tree.parent A.tree.size x → Forked A x

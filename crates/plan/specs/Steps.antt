@@ -3,6 +3,7 @@
 --   mask_for   a choice of two numbers by an axis
 --   without   the bits of one number that another lacks
 --   OfLabel   the steps that fit a row by their label
+--   no_labels  no step by its label
 --   Labelled  the steps by the two bytes of their label
 --   OfAxis    the steps past step 0 of an axis
 --   Next      the steps that hang on the step just before them
@@ -13,13 +14,13 @@
 --   Lacking   a set tells which steps of another lack one
 --   FitsBy    the steps that fit at a row, by what fits below it
 -- Assumes nothing.
-use Rattle.std.specs.Prelude.{ℕ, zero, suc, ◌+◌, ◌/◌, ◌%◌, ◌<◌, ◌≡◌, List, get_or}
+use Rattle.std.specs.Prelude.{ℕ, zero, suc, ◌+◌, ◌/◌, ◌%◌, ◌<◌, ◌≡◌, get_or, replicate}
 use Rattle.std.specs.Int.Bits.{bit_and, bit_xor}
 use Rattle.tables.specs.Bits.{bit, Marks}
 use Rattle.tables.specs.Tree.{Child}
 use Rattle.tables.specs.Pattern.{Shape, ValidShape}
 use Rattle.placing.specs.Placement.{LabelFits}
-use Rattle.plan.specs.declared.Sets.{Sets}
+use Rattle.plan.specs.declared.{labels.Labels.{Labels}, edges.Sets.{Sets}}
 
 -- c for axis child, d for axis descendant
 abbrev pub mask_for : ℕ → ℕ → ℕ → ℕ
@@ -34,10 +35,14 @@ without x y = bit_xor x (bit_and x y)
 abbrev pub OfLabel : Shape → ℕ → ℕ → Type 0
 OfLabel A l s = (s < A.tree.size) × LabelFits (A.label s) l
 
+-- both tables before any step has come
+abbrev pub no_labels : Labels
+no_labels = record { low = replicate 256 0; high = replicate 256 0 }
+
 -- entry k of each table has the steps of which that byte of the label is k
-pub record Labelled (A : Shape) (low high : List ℕ) : Type 0 where
-  pub lows : (k : ℕ) → Marks (get_or low k 0) (λ s. (s < A.tree.size) × (A.label s % 256 ≡ k))
-  pub highs : (k : ℕ) → Marks (get_or high k 0) (λ s. (s < A.tree.size) × (A.label s / 256 ≡ k))
+pub record Labelled (A : Shape) (x : Labels) : Type 0 where
+  pub lows : (k : ℕ) → Marks (get_or x.low k 0) (λ s. (s < A.tree.size) × (A.label s % 256 ≡ k))
+  pub highs : (k : ℕ) → Marks (get_or x.high k 0) (λ s. (s < A.tree.size) × (A.label s / 256 ≡ k))
 
 -- step t, which is not step 0, has axis a
 abbrev pub OfAxis : Shape → ℕ → ℕ → Type 0

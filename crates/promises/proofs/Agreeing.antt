@@ -1,9 +1,7 @@
 -- Shapes that agree on their steps are placed alike, have the same answers, and are sent into alike; checks that ask the same refuse alike. Assumes nothing.
-use Rattle.tables.proofs.Kit.{ℕ, zero, suc, ◌<◌, ◌≡◌, refl, sym, ◌∙◌, subst, inl, inr, ⊎_elim, ◌↔◌, List, [], ◌∷◌}
+use Rattle.tables.proofs.Kit.{ℕ, zero, suc, ◌<◌, ◌≡◌, refl, sym, ◌∙◌, subst, inl, inr, ⊎_elim, ◌↔◌, List, [], ◌∷◌, Result, Ok, Err}
 use Rattle.tables.specs.{Tree.{Child, From, Rows}, Document.{Document, nodes_of}, Pattern.{Shape, shape_of, rows_of}, Refusal.{Check, Passes, Refuses}}
-use Rattle.tables.specs.{Refusal.{Decided, CountedBy}, declared.Pattern.Pattern, declared.Refusal.Refusal, declared.Checked.Checked, declared.Counted.Counted}
-use Rattle.tables.specs.declared.Checked.TheVariants as checked
-use Rattle.tables.specs.declared.Counted.TheVariants as counted
+use Rattle.tables.specs.{Refusal.{Decided}, declared.Pattern.Pattern, declared.Refusal.Refusal}
 use Rattle.tables.proofs.{Trees.from_here, Rules.{Agree, agree_sym}, Agreement.below_agree}
 use Rattle.placing.specs.{Placement.{Takes, Goes, Sends, Reaches}, Answer.{Begins, Answer}}
 use Rattle.answers.specs.Working.{FitsAt}
@@ -44,15 +42,10 @@ refuses_alike (c ∷ cs) (d ∷ ds) r a h =
     ⊎_elim (λ w. inl (λ x. w.0 (a.0.1 x), w.1 ∙ a.1)) (λ w. inr (a.0.0 w.0, refuses_alike cs ds r (a.2 w.0) w.1)) h
 
 -- so a call answers alike by either
-pub decided_alike : (cs ds : List Check) (r : Checked) (X Y X' Y' : Type 0) → SameChecks cs ds → (Passes cs → X → X') → (Y → Y')
-    → Decided cs r X Y → Decided ds r X' Y'
-decided_alike cs ds checked.Right X Y X' Y' a f g h = (passes_alike cs ds a h.0, f h.0 h.1)
-decided_alike cs ds (checked.Refused r) X Y X' Y' a f g h = (refuses_alike cs ds r a h.0, g h.1)
-
-pub counted_alike : (cs ds : List Check) (r : Counted) (X X' : ℕ → Type 0) (Y : Type 0) → SameChecks cs ds → (Passes cs → (c : ℕ) → X c → X' c)
-    → CountedBy cs r X Y → CountedBy ds r X' Y
-counted_alike cs ds (counted.Count c) X X' Y a f h = (passes_alike cs ds a h.0, f h.0 c h.1)
-counted_alike cs ds (counted.Refused r) X X' Y a f h = (refuses_alike cs ds r a h.0, h.1)
+pub decided_alike : {A : Type 0} (cs ds : List Check) (r : Result A Refusal) (X X' : A → Type 0) (Y : Type 0) → SameChecks cs ds
+    → (Passes cs → (c : A) → X c → X' c) → Decided cs r X Y → Decided ds r X' Y
+decided_alike cs ds (Ok c) X X' Y a f h = (passes_alike cs ds a h.0, f h.0 c h.1)
+decided_alike cs ds (Err r) X X' Y a f h = (refuses_alike cs ds r a h.0, h.1)
 
 module _ {A B : Shape} (e : Agree A B) where
   -- steps of the one are steps of the other

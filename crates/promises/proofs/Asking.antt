@@ -14,7 +14,7 @@ pub third_is : (d : Document) (Q U : Pattern) (starts answers text : List ℕ) �
     (Answer (shape_of Q) d) answers → ThirdLine d Q U starts text
     → (text ≡ line rewriting_word answers) ⊎ (text ≡ none_line) ⊎ (text ≡ refused_line 8 rewriting_word)
 third_is d Q U starts answers text v s l (handed E xs h m e) =
-    let g = (serves_gives Q U E).0 h.2 in
+    let g = (serves_gives Q U E).0 h.1.1 in
     let found = lists_iff (lists_iff m (started_by (shape_of E) d (Answer (shape_of U) d) starts s)) (g.answers d v) in
     inl (e ∙ ap (line rewriting_word) (lists_unique (Answer (shape_of Q) d) xs answers found l))
 third_is d Q U starts answers text v s l (none h e) = inr (inl e)

@@ -1,7 +1,6 @@
 -- A start node with another label than step 0 adds nothing: the started call answers as if such nodes were not in its start list. Assumes nothing.
-use Rattle.tables.proofs.Kit.{ℕ, ◌+◌, ◌*◌, ◌<◌, ◌≡◌, refl, sym, subst, List, get_or}
+use Rattle.tables.proofs.Kit.{ℕ, ◌+◌, ◌*◌, ◌<◌, ◌≡◌, refl, sym, subst, List, get_or, Ok}
 use Rattle.tables.specs.{Document.{Document, node_count, nodes_of}, Pattern.{Shape, shape_of}, declared.Pattern.Pattern}
-use Rattle.tables.specs.declared.Counted.TheVariants as counted
 use Rattle.tables.proofs.Marks.{marks_to}
 use Rattle.placing.specs.{Placement.{LabelFits, Reaches}, Answer.{In, Lists, StartList}}
 use Rattle.placing.proofs.Listing.{lists_iff}
@@ -33,7 +32,7 @@ found_alike {A} {B} {d} {First} {Other} o f g to back n list₀ work₀ c list w
 -- where the started call has counted, it has the same count and leaves the same lists if it is started at those of the nodes that have step 0's label
 pub other_label : (E : Pattern) (d : Document) (xs ys : List ℕ) → Lists (λ i. In xs i × LabelFits ((shape_of E).label 0) ((nodes_of d).label i)) ys
     → (list₀ work₀ : List ℕ) (c : ℕ) (list work : List ℕ)
-    → FindsStarted E d xs list₀ work₀ (counted.Count c) list work → FindsStarted E d ys list₀ work₀ (counted.Count c) list work
+    → FindsStarted E d xs list₀ work₀ (Ok c) list work → FindsStarted E d ys list₀ work₀ (Ok c) list work
 other_label E d xs ys l list₀ work₀ c list work h =
     let starts : StartList d ys = record {
       ascending = l.ascending;

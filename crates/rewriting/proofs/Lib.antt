@@ -11,4 +11,3 @@ pub mod Paths
 pub mod Rewritten
 pub mod Unique
 pub mod Deciding
-pub mod Said

@@ -1,14 +1,12 @@
 -- What the rewriting call checks and answers (docs/RULES.md, "Rewriting"). Assumes nothing.
-use Rattle.std.specs.Prelude.{◌≤◌, ◌≡◌, List, [], ◌∷◌}
-use Rattle.tables.specs.Pattern.{shape_of, zero_pattern, ValidPattern}
-use Rattle.tables.specs.Refusal.{Check, Passes, Refuses}
+use Rattle.std.specs.Prelude.{◌≤◌, List, [], ◌∷◌, Result, Option, Some, None}
+use Rattle.tables.specs.Pattern.{shape_of, ValidPattern}
+use Rattle.tables.specs.Refusal.{Check, Decided}
 use Rattle.tables.specs.declared.Pattern.{Pattern}
+use Rattle.tables.specs.declared.Refusal.{Refusal}
 use Rattle.containment.specs.Mapping.{Equal}
 use Rattle.joining.specs.Join.{join_of, Joinable}
 use Rattle.rewriting.specs.Candidate.{Candidate}
-use Rattle.rewriting.specs.declared.Rewriting.{Rewriting}
-use Rattle.rewriting.specs.declared.Rewriting.TheVariants as rewriting
-use Rattle.rewriting.specs.declared.RewritingAnswer.{RewritingAnswer}
 
 -- the compensation E serves the query Q by the view U: it can be joined to U, and the join is equal to Q
 pub record Serves (Q U E : Pattern) : Type 0 where
@@ -21,12 +19,11 @@ rewriting_checks Q U =
     record { asks = ValidPattern Q; gives = 3 } ∷ record { asks = ValidPattern U; gives = 3 }
     ∷ record { asks = (Q.count ≤ 32) × (U.count ≤ 32); gives = 8 } ∷ []
 
--- the answer by its cases: the candidate where it serves, else nothing; the pattern is zero unless it is handed over
-abbrev pub AnswersRewriting : Pattern → Pattern → Rewriting → Pattern → Type 0
-AnswersRewriting Q U rewriting.Handed p = Passes (rewriting_checks Q U) × Candidate Q U p × Serves Q U p
-AnswersRewriting Q U rewriting.Nothing p = Passes (rewriting_checks Q U) × ((E : Pattern) → Candidate Q U E → Serves Q U E → ⊥) × (p ≡ zero_pattern)
-AnswersRewriting Q U (rewriting.Refused r) p = Refuses (rewriting_checks Q U) r × (p ≡ zero_pattern)
+-- the answer by its cases: the candidate where it serves, else nothing
+abbrev pub AnswersRewriting : Pattern → Pattern → Option Pattern → Type 0
+AnswersRewriting Q U (Some E) = Candidate Q U E × Serves Q U E
+AnswersRewriting Q U None = (E : Pattern) → Candidate Q U E → Serves Q U E → ⊥
 
 -- what the call answers
-abbrev pub Rewrites : Pattern → Pattern → RewritingAnswer → Type 0
-Rewrites Q U r = AnswersRewriting Q U r.answer r.pattern
+abbrev pub Rewrites : Pattern → Pattern → Result (Option Pattern) Refusal → Type 0
+Rewrites Q U r = Decided (rewriting_checks Q U) r (AnswersRewriting Q U) (Unit {0})

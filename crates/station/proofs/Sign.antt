@@ -1,10 +1,8 @@
 -- What the sign of an entry's number tells C: 0 or more is an answer and no refusal, and every check holds; minus k is the refusal with number k, by the first
 -- check that fails, and everything that was lent is as it was. Assumes nothing.
-use Rattle.tables.proofs.Kit.{ℕ, suc, ◌≡◌, refl, sym, ap, ◌∙◌, subst, List, ◌++◌, ℤ, negsuc, nat_abs, pos-ne-negsuc, length, drop}
-use Rattle.tables.specs.{Checks.room_for, Document.Document, Pattern.shape_of, Refusal.{number, Check, Passes, CountedBy}, declared.Refusal.Refusal}
+use Rattle.tables.proofs.Kit.{Result, Ok, Err, ℕ, suc, ◌≡◌, refl, sym, ap, ◌∙◌, subst, List, ◌++◌, ℤ, negsuc, nat_abs, pos-ne-negsuc, length, drop}
+use Rattle.tables.specs.{Checks.room_for, Document.Document, Pattern.shape_of, Refusal.{number, Check, Passes, Decided}, declared.Refusal.Refusal}
 use Rattle.tables.specs.declared.Refusal.TheVariants.{Version, Length, BadPattern, BadDocument, Room, Start, OtherLabel, TooLarge, NoLabel}
-use Rattle.tables.specs.declared.Counted.{Counted}
-use Rattle.tables.specs.declared.Counted.TheVariants as counted
 use Rattle.halves.specs.Bytes.{unpacked}
 use Rattle.packets.specs.{PatternPacket.{packet_pattern, pattern_checks, PacketPut}, DocumentPacket.{nodes_in, packet_document, document_checks}}
 use Rattle.placing.specs.Answer.{Begins, In}
@@ -17,7 +15,7 @@ use Rattle.packet_patterns.specs.Patterns.{joins_checks, JoinsPackets, rewrites_
 use Rattle.station.specs.Code.{code_of, Coded, Told}
 
 -- no refusal has the number 0
-refusal_code : (q : Refusal) → (k : ℕ) × (number q ≡ suc k) × (code_of (counted.Refused q) ≡ negsuc k)
+refusal_code : (q : Refusal) → (k : ℕ) × (number q ≡ suc k) × (code_of (Err q) ≡ negsuc k)
 refusal_code Version = (0, refl, refl)
 refusal_code Length = (1, refl, refl)
 refusal_code BadPattern = (2, refl, refl)
@@ -29,12 +27,12 @@ refusal_code TooLarge = (7, refl, refl)
 refusal_code NoLabel = (8, refl, refl)
 
 module _ (cs : List Check) (X : ℕ → Type 0) (Kept : Type 0) (r : ℤ) where
-  by_answer : (a : Counted) → CountedBy cs a X Kept → r ≡ code_of a → Told cs X Kept r
-  by_answer (counted.Count c) w e = record {
+  by_answer : (a : Result ℕ Refusal) → Decided cs a X Kept → r ≡ code_of a → Told cs X Kept r
+  by_answer (Ok c) w e = record {
     answered = λ n g. subst (λ (m : ℕ). Passes cs × X m) (ap nat_abs (sym e ∙ g)) w;
     refused = λ k g. absurd (pos-ne-negsuc c k (sym e ∙ g));
   }
-  by_answer (counted.Refused q) w e =
+  by_answer (Err q) w e =
       let z = refusal_code q in
       record {
         answered = λ n g. absurd (pos-ne-negsuc n z.0 (sym g ∙ e ∙ z.2));
@@ -42,7 +40,7 @@ module _ (cs : List Check) (X : ℕ → Type 0) (Kept : Type 0) (r : ℤ) where
       }
 
   -- a statement about an answer by checks, handed to C
-  told : (P : Counted → Type 0) → ((a : Counted) → P a → CountedBy cs a X Kept) → Coded P r → Told cs X Kept r
+  told : (P : Result ℕ Refusal → Type 0) → ((a : Result ℕ Refusal) → P a → Decided cs a X Kept) → Coded P r → Told cs X Kept r
   told P f h = by_answer h.answer (f h.answer h.holds) h.code
 
 -- the entries with a room

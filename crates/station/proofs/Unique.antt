@@ -1,6 +1,6 @@
 -- No second number and no second content of the room or of a list fits the statement of an entry. Assumes nothing.
-use Rattle.tables.proofs.Kit.{ℕ, ◌≡◌, sym, ap, ◌∙◌, List, ℤ}
-use Rattle.tables.specs.{Document.Document, declared.Counted.Counted}
+use Rattle.tables.proofs.Kit.{Result, ℕ, ◌≡◌, sym, ap, ◌∙◌, List, ℤ}
+use Rattle.tables.specs.{Document.Document, declared.Refusal.Refusal}
 use Rattle.packet_answers.specs.Documents.{AnswersPackets, StartsPackets}
 use Rattle.packet_answers.proofs.Unique.{answers_packets_unique, starts_packets_unique}
 use Rattle.packet_lists.specs.Lists.{ReadsInto, ListAnswers, ListStarted}
@@ -10,13 +10,14 @@ use Rattle.packet_patterns.proofs.Unique.{joins_packets_unique, rewrites_packets
 use Rattle.station.specs.Code.{code_of, Coded}
 
 -- one answer and one Z: one number and one Z
-coded_unique : {Z : Type 0} (P Q : Counted → Type 0) (r q : ℤ) → ((a b : Counted) → P a → Q b → (a ≡ b) × Z) → Coded P r → Coded Q q → (r ≡ q) × Z
+coded_unique : {Z : Type 0} (P Q : Result ℕ Refusal → Type 0) (r q : ℤ) → ((a b : Result ℕ Refusal) → P a → Q b → (a ≡ b) × Z) → Coded P r → Coded Q q →
+    (r ≡ q) × Z
 coded_unique P Q r q u h k = let s = u h.answer k.answer h.holds k.holds in (h.code ∙ ap code_of s.0 ∙ sym k.code, s.1)
 
 -- the entries with a room
 module _ (r q : ℤ) (room₀ room room' : List ℕ) where
   -- two statements of one call, with the number and the room of each
-  abbrev One : (Counted → List ℕ → Type 0) → Type 0
+  abbrev One : (Result ℕ Refusal → List ℕ → Type 0) → Type 0
   One X = Coded (λ a. X a room) r → Coded (λ a. X a room') q → (r ≡ q) × (room ≡ room')
 
   pub answers_one : (ds ps : List ℕ) → One (AnswersPackets ds ps room₀)
@@ -40,7 +41,7 @@ module _ (r q : ℤ) (room₀ room room' : List ℕ) where
 -- the entries with two lists
 module _ (r q : ℤ) (xs₀ ys₀ xs ys xs' ys' : List ℕ) where
   -- the same with the number and both lists of each
-  abbrev OneOfLists : (Counted → List ℕ → List ℕ → Type 0) → Type 0
+  abbrev OneOfLists : (Result ℕ Refusal → List ℕ → List ℕ → Type 0) → Type 0
   OneOfLists X = Coded (λ a. X a xs ys) r → Coded (λ a. X a xs' ys') q → (r ≡ q) × ((xs ≡ xs') × (ys ≡ ys'))
 
   pub read_document_one : (bs : List ℕ) → OneOfLists (ReadsInto bs xs₀ ys₀)

@@ -4,25 +4,23 @@
 --   Coded   what an entry states: its number is that of an answer that is right
 --   Told    what C may read from the number's sign
 -- Assumes nothing.
-use Rattle.std.specs.Prelude.{ℕ, suc, ◌<◌, ◌≡◌, List, ℤ, pos, neg_ℤ}
+use Rattle.std.specs.Prelude.{ℕ, suc, ◌<◌, ◌≡◌, List, ℤ, pos, neg_ℤ, Result, Ok, Err}
 use Rattle.tables.specs.Refusal.{number, Check, Passes, Refuses}
 use Rattle.tables.specs.declared.Refusal.{Refusal}
-use Rattle.tables.specs.declared.Counted.{Counted}
-use Rattle.tables.specs.declared.Counted.TheVariants.{Count, Refused}
 
 -- the count as it is, or minus the number of the refusal
-abbrev pub code_of : Counted → ℤ
-code_of (Count n) = pos n
-code_of (Refused r) = neg_ℤ (pos (number r))
+abbrev pub code_of : Result ℕ Refusal → ℤ
+code_of (Ok n) = pos n
+code_of (Err r) = neg_ℤ (pos (number r))
 
 -- the answer is a small count or a refusal
-abbrev pub Small : Counted → Type 0
-Small (Count n) = n < 65536
-Small (Refused r) = Unit {0}
+abbrev pub Small : Result ℕ Refusal → Type 0
+Small (Ok n) = n < 65536
+Small (Err r) = Unit {0}
 
 -- r is the number of an answer that is right
-pub record Coded (IsRight : Counted → Type 0) (r : ℤ) : Type 0 where
-  pub answer : Counted
+pub record Coded (IsRight : Result ℕ Refusal → Type 0) (r : ℤ) : Type 0 where
+  pub answer : Result ℕ Refusal
   pub holds : IsRight answer
   pub code : r ≡ code_of answer
 

@@ -12,6 +12,9 @@ ghost use Rattle.packet_patterns.specs.Patterns.{JoinsPackets, RewritesPackets, 
 
 mod code;
 
+use tables::Lists;
+
+// kept: nine entries that are alike: the C interface has each by its name and its arguments, lists apart.
 // The answers of a packet's pattern in a packet's document: the count, and the answers ascending at the front of the room, two bytes each; the bytes past them
 // stay. Refused by the document packet, the pattern packet or Room, the first that applies, with the room as it was.
 #[unsafe(no_mangle)]
@@ -100,7 +103,8 @@ pub extern "C" fn nishkavel_list_answers(
     ensures { Coded (λ a. ListAnswers (document_of parents.now labels.now) pattern.now
         list.old work.old a list.new work.new) result }
 {
-    code::number_of(packet_lists::list_answers(parents, labels, pattern, list, work))
+    let document = Lists { parents, labels };
+    code::number_of(packet_lists::list_answers(document, pattern, list, work))
 }
 
 // The same with step 0 at any node of `starts`. Refused by the packet, BadDocument, Start or Room, the first that applies, with both lists as they were.
@@ -116,5 +120,6 @@ pub extern "C" fn nishkavel_list_started(
     ensures { Coded (λ a. ListStarted (document_of parents.now labels.now) pattern.now
         starts.now list.old work.old a list.new work.new) result }
 {
-    code::number_of(packet_lists::list_started(parents, labels, pattern, starts, list, work))
+    let document = Lists { parents, labels };
+    code::number_of(packet_lists::list_started(document, pattern, starts, list, work))
 }

@@ -1,7 +1,7 @@
 -- Laws of blocks, of columns, of arrays that are zero past their first entries, and of steps in arrays. Assumes nothing.
 use Rattle.tables.proofs.Kit.{ℕ, zero, suc, ◌+◌, ◌*◌, ◌≤◌, ◌<◌, ◌≡◌, refl, sym, ap, ap₂, ◌∙◌, subst}
 use Rattle.tables.proofs.Kit.{List, [], ◌∷◌, ◌++◌, map, append_assoc, arith, zero-mul, suc-mul, add-one, length, get_or, set, take, drop}
-use Rattle.tables.proofs.Kit.{replicate, length-append, length-drop, length-replicate, length-map, get_or-append, get_or-map}
+use Rattle.tables.proofs.Kit.{replicate, length-append, length-drop, length-replicate, get_or-append, get_or-map}
 use Rattle.tables.proofs.Kit.{get_or-append-add, drop-cons, drop-drop, drop-append-add, take_at, set_at, ext_get_or}
 use Rattle.tables.specs.{Column.{blocks, column, padded, step_no, step_array, bare_numbers_of}, declared.StepNo.StepNo}
 use Rattle.tables.proofs.Choice.{below_or_at}
@@ -94,17 +94,6 @@ steps_at f n k l = get_or-map step_no (padded f n) k 0 ∙ ap step_no (padded_at
 pub steps_ext : (f g : ℕ → ℕ) (n : ℕ) → ((k : ℕ) → k < n → f k ≡ g k) → step_array f n ≡ step_array g n
 unfolding step_array
 steps_ext f g n h = ap (map step_no) (padded_ext f g n h)
-
--- the number of a step
-pub bare_at : (steps : List StepNo) (k : ℕ) → get_or (bare_numbers_of steps) k 0 ≡ (get_or steps k (step_no 0)).0
-bare_at steps k = get_or-map (λ s. s.0) steps k (step_no 0)
-
--- the numbers of all steps, taken one by one
-pub bare_all : (steps : List StepNo) → length steps ≡ 64 → padded (λ k. (get_or steps k (step_no 0)).0) 64 ≡ bare_numbers_of steps
-bare_all steps e =
-    let f : ℕ → ℕ = λ k. (get_or steps k (step_no 0)).0 in
-    ext_get_or 0 (padded f 64) (bare_numbers_of steps) (padded_length f 64 (omega arith) ∙ sym e ∙ sym (length-map steps (λ s. s.0)))
-    (λ k l. padded_at f 64 k (omega (arith, padded_length f 64 (omega arith))) ∙ sym (bare_at steps k))
 
 -- steps with the same numbers are the same
 pub bare_same : (xs ys : List StepNo) → bare_numbers_of xs ≡ bare_numbers_of ys → xs ≡ ys

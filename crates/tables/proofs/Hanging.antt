@@ -1,23 +1,14 @@
 -- Climbing decides whether a row hangs right, given that the rows before it do: start at the row before it, and go up while the parent looked for is
--- smaller. Both checks of tables cite these laws. Assumes nothing.
-use Rattle.tables.proofs.Kit.{ℕ, zero, suc, ◌-◌, ◌≤◌, ◌<◌, ◌≡◌, refl, sym, subst, inl, inr, ⊎_elim, ◌↔◌, List, arith, length, get_or, T, eqb}
+-- smaller. The check of a row cites these laws. Assumes nothing.
+use Rattle.tables.proofs.Kit.{ℕ, zero, suc, ◌-◌, ◌≤◌, ◌<◌, ◌≡◌, refl, sym, subst, inr, ⊎_elim, ◌↔◌, arith, T, eqb}
 use Rattle.tables.specs.Tree.{Tree, Child, Below, child, From, Hangs}
 use Rattle.tables.proofs.{Trees.{below_lt_to, parent_lt_to, below_up, from_trans}, Tests.tells_eq}
-
--- the tree whose parents stand in a list
-abbrev pub listed : List ℕ → Tree
-listed ps = record { size = length ps; parent = λ j. get_or ps j 0 }
 
 -- the climb for row i stands at row a: on the way up from row i - 1, and not past the parent of row i if that is on the way
 pub record Climbs (D : Tree) (i a : ℕ) : Type 0 where
   pub low : a < i
   pub came : From D a (i - 1)
   pub ahead : From D (D.parent i) (i - 1) → From D (D.parent i) a
-
--- the first row hangs on the mark
-pub first_hangs : (D : Tree) (root i : ℕ) → i ≡ 0 → T (eqb (D.parent i) root) ↔ Hangs D root i
-first_hangs D root i e =
-    subst (λ (x : ℕ). T (eqb (D.parent x) root) ↔ Hangs D root x) (sym e) ((tells_eq (D.parent 0) root).says, (tells_eq (D.parent 0) root).test)
 
 -- a later row hangs on the row before it, or on an ancestor of that
 hangs_later : (D : Tree) (root i : ℕ) → 0 < i → From D (D.parent i) (i - 1) ↔ Hangs D root i
@@ -30,9 +21,6 @@ module _ (D : Tree) (root i : ℕ) (late : 0 < i) (here : i < D.size) (right : (
   -- each row on the way has its parent before it
   pub climb_falls : (a : ℕ) → 0 < a → a < i → D.parent a < a
   climb_falls a p l = parent_lt_to a (λ j m h. right (suc j) (omega arith)) a (omega arith) p (omega arith)
-
-  pub climb_starts : Climbs D i (i - 1)
-  climb_starts = record { low = omega arith; came = inl refl; ahead = λ w. w }
 
   pub climb_goes : {a : ℕ} → Climbs D i a → D.parent i < a → Climbs D i (D.parent a)
   climb_goes {a} c l =

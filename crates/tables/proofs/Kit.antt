@@ -16,6 +16,7 @@ pub use lib.Seq.{get_or-set_same, get_or-set_other, get_or-append-add, sets-eq, 
 pub use lib.Seq.{set_at, ext_get_or, take_all, take-take, take-add, length-take-le, get_or-take, get_or-drop, take-suc, append_snoc, drop_at}
 pub use lib.Bits.{bit_or, bit_and, bit_xor, or_shifted_r, or_shr, or_step, and_shr, and_step, xor_shr, xor_add_and}
 pub use lib.Pow.{pow_pos, pow_mono, pow-lt, pow-add, shr-shr, shl_exact, field, mod-mod-pow}
+pub use Rattle.std.specs.Prelude.{Result, Ok, Err, Option, Some, None}
 pub use lib.IntN.{ℤ, pos, negsuc, neg_ℤ, ◌-ℤ◌, +ℤ_idl, nat_abs, pos-ne-negsuc}
 pub use mir.Syntax.{w16, w8, w64}
 pub use mir.Val.{Fits, SFits, to_z, of_z, hbits}

@@ -8,6 +8,7 @@ pub mod Hanging
 pub mod Depth
 pub mod Columns
 pub mod Rules
+pub mod Kept
 pub mod Filling
 pub mod Refusals
 pub mod Agreement

@@ -1,6 +1,7 @@
 -- Marks that a loop over rows gathers, in one number or in a table by a key. Assumes nothing.
-use Rattle.tables.proofs.Kit.{ℕ, ◌+◌, ◌^◌, ◌≤◌, ◌<◌, ◌≡◌, refl, sym, subst, ◌⊎◌, inl, inr, ◌≢◌, ⊎_elim, List, arith, ℕ_discrete, dec_lt, bit_or}
-use Rattle.tables.proofs.Kit.{length, get_or, set, replicate, length-replicate, get_or-replicate, get_or-eq_default, get_or-set_same, get_or-set_other}
+use Rattle.tables.proofs.Kit.{ℕ, ◌+◌, ◌^◌, ◌≤◌, ◌<◌, ◌≡◌, refl, sym, subst, ◌⊎◌, inl, inr, ◌≢◌, ⊎_elim, List, arith, ℕ_discrete, bit_or}
+use Rattle.tables.proofs.Kit.{length, get_or, set, replicate, get_or-set_same, get_or-set_other}
+use Rattle.std.proofs.lemmas.Grind.{common_steps}
 use Rattle.tables.specs.{Bits.Marks, Tree.Child, Pattern.{Shape, ValidShape}}
 use Rattle.tables.proofs.{Marks.{marks_none, marks_to, marks_with}, Rules.shape_ordered, Trees.parent_lt}
 
@@ -34,11 +35,7 @@ module _ (low : ℕ) (Q : ℕ → Type 0) where
 
 -- every entry of zeros is 0, past the end too
 pub zeros_at : (n b : ℕ) → get_or {A = ℕ} (replicate n 0) b 0 ≡ 0
-zeros_at n b = go (dec_lt b n)
-  where
-    go : Dec (b < n) → get_or {A = ℕ} (replicate n 0) b 0 ≡ 0
-    go (yes l) = get_or-replicate {A = ℕ} n b 0 0 l
-    go (no l) = get_or-eq_default {A = ℕ} (replicate n 0) 0 (omega (arith, length-replicate {A = ℕ} n 0))
+zeros_at n b = grind (arith, common_steps)
 
 -- entry b has the numbers from low on and below k whose key is b
 pub record Keyed (f : ℕ → ℕ) (low k : ℕ) (table : List ℕ) : Type 0 where

@@ -1,26 +1,16 @@
 -- What follows from both outcomes of one call, whether it answers or refuses; and the checks of a call that makes other calls one after the other, which are
 -- theirs, one list after the other. Assumes nothing.
-use Rattle.tables.proofs.Kit.{ℕ, inl, inr, ⊎_elim, List, [], ◌∷◌, ◌++◌}
-use Rattle.tables.specs.{Refusal.{Check, Passes, Refuses, Decided, CountedBy}, declared.Refusal.Refusal}
-use Rattle.tables.specs.{declared.Checked.Checked, declared.Counted.Counted}
-use Rattle.tables.specs.declared.Checked.TheVariants as checked
-use Rattle.tables.specs.declared.Counted.TheVariants as counted
+use Rattle.tables.proofs.Kit.{ℕ, inl, inr, ⊎_elim, List, [], ◌∷◌, ◌++◌, Result, Ok, Err}
+use Rattle.tables.specs.{Refusal.{Check, Passes, Refuses, Decided}, declared.Refusal.Refusal}
 use Rattle.tables.proofs.Refusals.{refuses_not_passes}
 
--- two outcomes of one check: what both answers and both refusals give
-pub decided_both : (cs : List Check) (a b : Checked) {X Y X' Y' G : Type 0} → (X → X' → G) → (Y → Y' → G) → Decided cs a X Y → Decided cs b X' Y' → G
-decided_both cs checked.Right checked.Right f g h k = f h.1 k.1
-decided_both cs checked.Right (checked.Refused q) f g h k = absurd (refuses_not_passes cs q k.0 h.0)
-decided_both cs (checked.Refused r) checked.Right f g h k = absurd (refuses_not_passes cs r h.0 k.0)
-decided_both cs (checked.Refused r) (checked.Refused q) f g h k = g h.1 k.1
-
--- the same for a call that counts
-pub counted_both : (cs : List Check) (a b : Counted) {X X' : ℕ → Type 0} {Y Y' G : Type 0}
-    → ((c e : ℕ) → X c → X' e → G) → (Y → Y' → G) → CountedBy cs a X Y → CountedBy cs b X' Y' → G
-counted_both cs (counted.Count c) (counted.Count e) f g h k = f c e h.1 k.1
-counted_both cs (counted.Count c) (counted.Refused q) f g h k = absurd (refuses_not_passes cs q k.0 h.0)
-counted_both cs (counted.Refused r) (counted.Count e) f g h k = absurd (refuses_not_passes cs r h.0 k.0)
-counted_both cs (counted.Refused r) (counted.Refused q) f g h k = g h.1 k.1
+-- two outcomes of one call: what both answers and both refusals give
+pub decided_both : {A B : Type 0} (cs : List Check) (a : Result A Refusal) (b : Result B Refusal) {X : A → Type 0} {X' : B → Type 0} {Y Y' G : Type 0}
+    → ((c : A) (e : B) → X c → X' e → G) → (Y → Y' → G) → Decided cs a X Y → Decided cs b X' Y' → G
+decided_both cs (Ok c) (Ok e) f g h k = f c e h.1 k.1
+decided_both cs (Ok c) (Err q) f g h k = absurd (refuses_not_passes cs q k.0 h.0)
+decided_both cs (Err r) (Ok e) f g h k = absurd (refuses_not_passes cs r h.0 k.0)
+decided_both cs (Err r) (Err q) f g h k = g h.1 k.1
 
 -- what the first of two lists of checks refuses, both do
 pub refuses_front : (cs ds : List Check) (r : Refusal) → Refuses cs r → Refuses (cs ++ ds) r
@@ -52,19 +42,20 @@ last_holds [] c r f h = ⊎_elim (λ w. w.0 (f tt)) (λ w. w.1) h
 last_holds (d ∷ ds) c r f h = ⊎_elim inl (λ w. inr (w.0, last_holds ds c r (λ p. f (w.0, p)) w.1)) h
 
 -- a call's answer, after checks that hold
-pub counted_rest : (cs ds : List Check) (a : Counted) (X : ℕ → Type 0) (Y : Type 0) → Passes cs → CountedBy ds a X Y → CountedBy (cs ++ ds) a X Y
-counted_rest cs ds (counted.Count c) X Y p h = (passes_both cs ds p h.0, h.1)
-counted_rest cs ds (counted.Refused r) X Y p h = (refuses_rest cs ds r p h.0, h.1)
+pub decided_rest : {A : Type 0} (cs ds : List Check) (a : Result A Refusal) (X : A → Type 0) (Y : Type 0) → Passes cs → Decided ds a X Y → Decided (cs ++ ds)
+    a X Y
+decided_rest cs ds (Ok c) X Y p h = (passes_both cs ds p h.0, h.1)
+decided_rest cs ds (Err r) X Y p h = (refuses_rest cs ds r p h.0, h.1)
 
 -- a call's answer without a check that is known to hold
-pub counted_known : {X : Type 0} (g : ℕ) (ds : List Check) (a : Counted) (Z : ℕ → Type 0) (Y : Type 0)
-    → X → CountedBy (record { asks = X; gives = g } ∷ ds) a Z Y → CountedBy ds a Z Y
-counted_known g ds (counted.Count c) Z Y x h = (h.0.1, h.1)
-counted_known g ds (counted.Refused r) Z Y x h = (⊎_elim (λ w. absurd (w.0 x)) (λ w. w.1) h.0, h.1)
+pub decided_known : {A X : Type 0} (g : ℕ) (ds : List Check) (a : Result A Refusal) (Z : A → Type 0) (Y : Type 0)
+    → X → Decided (record { asks = X; gives = g } ∷ ds) a Z Y → Decided ds a Z Y
+decided_known g ds (Ok c) Z Y x h = (h.0.1, h.1)
+decided_known g ds (Err r) Z Y x h = (⊎_elim (λ w. absurd (w.0 x)) (λ w. w.1) h.0, h.1)
 
 -- a call's answer by a check in other words, with another result
-pub counted_other : {X X' : Type 0} (g : ℕ) (a : Counted) (Z Z' : ℕ → Type 0) (Y : Type 0)
-    → (X → X') → (X' → X) → ((c : ℕ) → Z c → Z' c) → CountedBy (record { asks = X; gives = g } ∷ []) a Z Y → CountedBy (record { asks = X'; gives = g } ∷ [])
+pub decided_other : {A X X' : Type 0} (g : ℕ) (a : Result A Refusal) (Z Z' : A → Type 0) (Y : Type 0)
+    → (X → X') → (X' → X) → ((c : A) → Z c → Z' c) → Decided (record { asks = X; gives = g } ∷ []) a Z Y → Decided (record { asks = X'; gives = g } ∷ [])
     a Z' Y
-counted_other g (counted.Count c) Z Z' Y f b z h = ((f h.0.0, tt), z c h.1)
-counted_other g (counted.Refused r) Z Z' Y f b z h = (⊎_elim (λ w. inl (λ x. w.0 (b x), w.1)) (λ w. absurd w.1) h.0, h.1)
+decided_other g (Ok c) Z Z' Y f b z h = ((f h.0.0, tt), z c h.1)
+decided_other g (Err r) Z Z' Y f b z h = (⊎_elim (λ w. inl (λ x. w.0 (b x), w.1)) (λ w. absurd w.1) h.0, h.1)

@@ -1,10 +1,7 @@
 -- A call answers or refuses, never both, and refuses by one number. Assumes nothing.
-use Rattle.tables.proofs.Kit.{ℕ, ◌≡◌, refl, sym, ap, ◌∙◌, inl, ⊎_elim, List, [], ◌∷◌, get_or}
-use Rattle.tables.specs.{Refusal.{number, Check, Passes, Refuses, Decided, CountedBy}, declared.Refusal.Refusal}
+use Rattle.tables.proofs.Kit.{◌≡◌, refl, sym, ap, ◌∙◌, inl, ⊎_elim, List, [], ◌∷◌, get_or, Result, Ok, Err, Option, Some, None}
+use Rattle.tables.specs.{Refusal.{number, Check, Passes, Refuses, Decided}, declared.Refusal.Refusal}
 use Rattle.tables.specs.declared.Refusal.TheVariants.{Version, Length, BadPattern, BadDocument, Room, Start, OtherLabel, TooLarge, NoLabel}
-use Rattle.tables.specs.{declared.Checked.Checked, declared.Counted.Counted}
-use Rattle.tables.specs.declared.Checked.TheVariants as checked
-use Rattle.tables.specs.declared.Counted.TheVariants as counted
 
 -- the refusals in the order of their numbers
 by_number : List Refusal
@@ -39,20 +36,28 @@ refuses_unique (c ∷ cs) r q h k = ⊎_elim (λ w. ⊎_elim (λ x. number_uniqu
     h
 
 -- a call with one check refuses where that does not hold
-pub refused : {X : Type 0} (r : Refusal) → (X → ⊥) → Decided (record { asks = X; gives = number r } ∷ []) (checked.Refused r) (Unit {0}) (Unit {0})
+pub refused : {X : Type 0} (r : Refusal) → (X → ⊥) → Refuses (record { asks = X; gives = number r } ∷ []) r × Unit {0}
 refused r h = (inl (h, refl), tt)
 
--- no second answer fits a check
-pub decided_unique : (cs : List Check) (a b : Checked) (X Y X' Y' : Type 0) → Decided cs a X Y → Decided cs b X' Y' → a ≡ b
-decided_unique cs checked.Right checked.Right X Y X' Y' h k = refl
-decided_unique cs checked.Right (checked.Refused q) X Y X' Y' h k = absurd (refuses_not_passes cs q k.0 h.0)
-decided_unique cs (checked.Refused r) checked.Right X Y X' Y' h k = absurd (refuses_not_passes cs r h.0 k.0)
-decided_unique cs (checked.Refused r) (checked.Refused q) X Y X' Y' h k = ap checked.Refused (refuses_unique cs r q h.0 k.0)
+-- no second answer fits, where no second value does
+pub decided_unique : {A : Type 0} (cs : List Check) (a b : Result A Refusal) (X : A → Type 0) (Y : Type 0) (X' : A → Type 0) (Y' : Type 0)
+    → ((c e : A) → X c → X' e → c ≡ e) → Decided cs a X Y → Decided cs b X' Y' → a ≡ b
+decided_unique cs (Ok c) (Ok e) X Y X' Y' u h k = ap Ok (u c e h.1 k.1)
+decided_unique cs (Ok c) (Err q) X Y X' Y' u h k = absurd (refuses_not_passes cs q k.0 h.0)
+decided_unique cs (Err r) (Ok e) X Y X' Y' u h k = absurd (refuses_not_passes cs r h.0 k.0)
+decided_unique cs (Err r) (Err q) X Y X' Y' u h k = ap Err (refuses_unique cs r q h.0 k.0)
 
--- nor a call that counts, where no second count fits
-pub counted_unique : (cs : List Check) (a b : Counted) (X : ℕ → Type 0) (Y : Type 0) (X' : ℕ → Type 0) (Y' : Type 0)
-    → ((c e : ℕ) → X c → X' e → c ≡ e) → CountedBy cs a X Y → CountedBy cs b X' Y' → a ≡ b
-counted_unique cs (counted.Count c) (counted.Count e) X Y X' Y' u h k = ap counted.Count (u c e h.1 k.1)
-counted_unique cs (counted.Count c) (counted.Refused q) X Y X' Y' u h k = absurd (refuses_not_passes cs q k.0 h.0)
-counted_unique cs (counted.Refused r) (counted.Count e) X Y X' Y' u h k = absurd (refuses_not_passes cs r h.0 k.0)
-counted_unique cs (counted.Refused r) (counted.Refused q) X Y X' Y' u h k = ap counted.Refused (refuses_unique cs r q h.0 k.0)
+-- what an answer refuses by, if it does
+unfoldable pub verdict : {A : Type 0} → Result A Refusal → Option Refusal
+verdict (Ok a) = None
+verdict (Err q) = Some q
+
+-- one verdict fits, whatever is handed over
+pub verdict_unique : {A B : Type 0} (cs : List Check) (a : Result A Refusal) (b : Result B Refusal) (X : A → Type 0) (Y : Type 0) (X' : B → Type 0)
+    (Y' : Type 0)
+    → Decided cs a X Y → Decided cs b X' Y' → verdict a ≡ verdict b
+unfolding verdict
+verdict_unique cs (Ok c) (Ok e) X Y X' Y' h k = refl
+verdict_unique cs (Ok c) (Err q) X Y X' Y' h k = absurd (refuses_not_passes cs q k.0 h.0)
+verdict_unique cs (Err r) (Ok e) X Y X' Y' h k = absurd (refuses_not_passes cs r h.0 k.0)
+verdict_unique cs (Err r) (Err q) X Y X' Y' h k = ap Some (refuses_unique cs r q h.0 k.0)

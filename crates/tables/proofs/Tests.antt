@@ -63,15 +63,6 @@ pub tells_not : {b : Bool} {X : Type 0} → Tells b X → Tells (not b) (X → �
 tells_not {b = true} h = record { says = λ t. absurd t; test = λ f. f (h.says tt) }
 tells_not {b = false} h = record { says = λ t x. h.test x; test = λ f. tt }
 
--- a test whose negation is false passes, and one whose negation is true does not
-pub passed : (b : Bool) → not b ≡ false → T b
-passed true e = tt
-passed false e = let z : true ≡ false = e in let w : ◌≡◌ {A = ℕ} 0 1 = cc in absurd (omega arith)
-
-pub failed : (b : Bool) → not b ≡ true → T b → ⊥
-failed true e t = let z : false ≡ true = e in let w : ◌≡◌ {A = ℕ} 0 1 = cc in omega arith
-failed false e t = t
-
 -- both parts of a test that passes
 pub and_both : (a b : Bool) → T (a && b) → T a × T b
 and_both true b t = (tt, t)
@@ -90,3 +81,12 @@ same_list_lem [] [] t = refl
 same_list_lem [] (y ∷ ys) t = absurd t
 same_list_lem (x ∷ xs) [] t = absurd t
 same_list_lem (x ∷ xs) (y ∷ ys) t = let p = and_both (eqb x y) (same_list xs ys) t in ap₂ (λ a l. a ∷ l) (eqb→eq x y p.0) (same_list_lem xs ys p.1)
+
+-- a test whose negation is false passes, and one whose negation is true does not
+pub passed : (b : Bool) → not b ≡ false → T b
+passed true e = tt
+passed false e = let z : true ≡ false = e in let w : ◌≡◌ {A = ℕ} 0 1 = cc in absurd (omega arith)
+
+pub failed : (b : Bool) → not b ≡ true → T b → ⊥
+failed true e t = let z : false ≡ true = e in let w : ◌≡◌ {A = ℕ} 0 1 = cc in omega arith
+failed false e t = t

@@ -1,6 +1,7 @@
 -- Document tables and their rules (docs/RULES.md, "Documents"). Assumes nothing.
 use Rattle.std.specs.Prelude.{ℕ, ◌<◌, ◌≤◌, ◌≡◌, List, length, get_or}
 use Rattle.tables.specs.Tree.{Hangs, IsLabel, Rows}
+use Rattle.tables.specs.declared.Lists.{Lists}
 
 -- a document is two lists, with an entry of each for every node
 pub record Document : Type 0 where
@@ -10,6 +11,10 @@ pub record Document : Type 0 where
 -- the document of two lists
 abbrev pub document_of : List ℕ → List ℕ → Document
 document_of parents labels = record { parents = parents; labels = labels }
+
+-- the document of two lists that are lent
+abbrev pub of_lists : Lists → Document
+of_lists l = document_of l.parents.now l.labels.now
 
 -- how many nodes a document has
 abbrev pub node_count : Document → ℕ

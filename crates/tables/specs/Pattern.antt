@@ -4,13 +4,14 @@
 --   shape_of       the shape that a table has: entries past the step count are not read
 --   table_of       a table by its parts
 --   pattern_of     the table that a shape has: entries past the step count are zero
+--   pushed        a table with one step more
 --   StepRule      the rule for a step, where the steps before it obey theirs
 --   ValidShape    a shape obeys the rules
 --   ValidPattern  a table obeys the rules
 --   Clean         a table as it is handed out
---   zero_pattern   the table beside a refusal
+--   zero_pattern   the table of no steps
 -- Assumes nothing.
-use Rattle.std.specs.Prelude.{ℕ, ◌<◌, ◌≤◌, ◌≡◌, ◌⊎◌, List, get_or, replicate}
+use Rattle.std.specs.Prelude.{ℕ, ◌+◌, ◌<◌, ◌≤◌, ◌≡◌, ◌⊎◌, List, get_or, set, replicate}
 use Rattle.tables.specs.Tree.{Tree, Hangs, IsLabel, Rows}
 use Rattle.tables.specs.Column.{padded, step_no, step_array}
 use Rattle.tables.specs.declared.Pattern.{Pattern}
@@ -46,9 +47,19 @@ pattern_of A =
     table_of A.tree.size A.output
     (step_array A.tree.parent A.tree.size) (padded A.axis A.tree.size) (padded A.label A.tree.size)
 
--- the table beside a refusal or "none": nothing but zeros
+-- the table of no steps, from which every table that is made is filled in: nothing but zeros
 unfoldable pub zero_pattern : Pattern
 zero_pattern = table_of 0 0 (replicate 64 (step_no 0)) (replicate 64 0) (replicate 64 0)
+
+-- a table with one step more, after its others
+abbrev pub pushed : Pattern → StepNo → ℕ → ℕ → Pattern
+pushed p parent axis label = record {
+  parent = set p.parent p.count parent;
+  axis = set p.axis p.count axis;
+  label = set p.label p.count label;
+  count = p.count + 1;
+  output = p.output;
+}
 
 -- the rule for step s, where the steps before it obey theirs
 pub record StepRule (A : Shape) (s : ℕ) : Type 0 where

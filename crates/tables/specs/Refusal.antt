@@ -4,14 +4,9 @@
 --   Passes     every check holds
 --   Refuses    the first check that fails gives the refusal
 --   Decided    an answer by a list of checks
---   CountedBy  the same for a call that counts
 -- Assumes nothing.
-use Rattle.std.specs.Prelude.{ℕ, ◌≡◌, ◌⊎◌, List, [], ◌∷◌}
+use Rattle.std.specs.Prelude.{ℕ, ◌≡◌, ◌⊎◌, List, [], ◌∷◌, Result, Ok, Err}
 use Rattle.tables.specs.declared.Refusal.{Refusal}
-use Rattle.tables.specs.declared.Checked.{Checked}
-use Rattle.tables.specs.declared.Checked.TheVariants as checked
-use Rattle.tables.specs.declared.Counted.{Counted}
-use Rattle.tables.specs.declared.Counted.TheVariants as counted
 use Rattle.tables.specs.declared.Refusal.TheVariants.{Version, Length, BadPattern, BadDocument, Room, Start, OtherLabel, TooLarge, NoLabel}
 
 -- the number of each refusal
@@ -50,12 +45,7 @@ abbrev pub Refuses : List Check → Refusal → Type 0
 Refuses [] r = ⊥
 Refuses (c ∷ cs) r = ((c.asks → ⊥) × (number r ≡ c.gives)) ⊎ (c.asks × Refuses cs r)
 
--- a call's answer by its checks: right, with X, where all hold; else the refusal, with Y
-abbrev pub Decided : List Check → Checked → Type 0 → Type 0 → Type 0
-Decided cs checked.Right X Y = Passes cs × X
-Decided cs (checked.Refused r) X Y = Refuses cs r × Y
-
--- the same for a call that counts: X says what the count is
-abbrev pub CountedBy : List Check → Counted → (ℕ → Type 0) → Type 0 → Type 0
-CountedBy cs (counted.Count c) X Y = Passes cs × X c
-CountedBy cs (counted.Refused r) X Y = Refuses cs r × Y
+-- a call's answer by its checks: where all hold, X says what the answer is; else the refusal, with Y
+abbrev pub Decided : {A : Type 0} → List Check → Result A Refusal → (A → Type 0) → Type 0 → Type 0
+Decided cs (Ok a) X Y = Passes cs × X a
+Decided cs (Err r) X Y = Refuses cs r × Y

@@ -1,2 +1,2 @@
 -- What only private functions cite: a reader of the public contracts need not read it. Assumes nothing.
-pub mod Steps
+pub mod Rule

@@ -1,37 +1,42 @@
--- `asking::put_reply` meets its contract: the document packet, and then what follows it. Assumes nothing.
-use Rattle.tables.proofs.Kit.{sym, arith, length-take-le}
-use Rattle.tables.specs.declared.Counted.TheVariants.{Count, Refused}
-use Rattle.packets.proofs.Reading.{document_fronts}
-use Rattle.asking.specs.{Text.document_word, Parts.document_part}
-use Rattle.asking.proofs.{Parts.{next_within, rules_pass}, Writing.refused_short}
-use Rattle.asking.proofs.{Answering.number_small, Replying.{document_read, document_refused}}
+-- `asking::put_reply` meets its contract: each packet that is refused, bytes past them, and then the answers. Assumes nothing.
+use Rattle.tables.proofs.Kit.{arith, sym, ◌∙◌, eqb-true, eqb-false}
+use Rattle.asking.proofs.Parts.{Parted, parted}
+use Rattle.asking.proofs.Replying.{document_refused, lists_right, view_refused, query_refused, extra_refused, all_answered}
 use Rattle.asking.proofs.put_reply.Goals as goal
+use Rattle.asking.proofs.put_reply.Goals.{After-split_packet-3}
 
-pub slice_bounds-read_document-end : goal.slice_bounds-read_document-end
-slice_bounds-read_document-end c =
-    let a = c.next_at-a in
-    sym (length-take-le a.result c.args.input.now (omega (arith, a.ensures, (next_within c.args.input.now 0 (omega arith)).1)))
+-- the three packets and the rest are the input's
+parts : (x : After-split_packet-3) → Parted x.args.input.now x.split_packet.result.0.now x.split_packet-2.result.0.now x.split_packet-3.result.0.now
+    x.split_packet-3.result.1.now
+parts x =
+    parted x.split_packet.ensures.packet x.split_packet.ensures.rest x.split_packet-2.ensures.packet x.split_packet-2.ensures.rest
+    x.split_packet-3.ensures.packet x.split_packet-3.ensures.rest
 
-pub put_refused-requires : goal.put_refused-requires
-put_refused-requires c =
-    let k = c.number_of.result in
-    omega (arith, refused_short k document_word (omega (arith, c.number_of.ensures, number_small c.in-Refused.r)))
+pub returns-in-Err : goal.returns-in-Err
+returns-in-Err c = document_refused (parts (goal.at.returns-in-Err c).After-split_packet-3) c.in-Err.r c.in-Err.ensures c.refused.ensures
 
--- where the document's nodes are counted, the document packet is read
-pub past_document-requires-clause-passes : goal.past_document-requires-clause-passes
-past_document-requires-clause-passes c =
-    let a = c.next_at-a in let d = c.read_document in
-    let h = document_read c.args.input.now a.result (Count c.in-Count.n) d.new.parents d.new.labels a.ensures c.in-Count.ensures in
-    rules_pass (document_part c.args.input.now) 2048 2048 h.0
+pub returns-in-Err-read_pattern : goal.returns-in-Err-read_pattern
+returns-in-Err-read_pattern c =
+    view_refused (parts (goal.at.returns-in-Err-read_pattern c).After-split_packet-3) c.in-Ok.ensures c.in-Err-read_pattern.r c.in-Err-read_pattern.ensures
+    c.refused-in-Err-read_pattern.ensures
 
-pub past_document-requires-clause-labels_value : goal.past_document-requires-clause-labels_value
-past_document-requires-clause-labels_value c =
-    let a = c.next_at-a in let d = c.read_document in
-    let h = document_read c.args.input.now a.result (Count c.in-Count.n) d.new.parents d.new.labels a.ensures c.in-Count.ensures in
-    document_fronts (document_part c.args.input.now) d.new.parents d.new.labels _ _ c.in-Count.n h.1.0 h.1.1 h.1.2
+pub returns-in-Err-read_pattern-2 : goal.returns-in-Err-read_pattern-2
+returns-in-Err-read_pattern-2 c =
+    query_refused (parts (goal.at.returns-in-Err-read_pattern-2 c).After-split_packet-3) c.in-Ok.ensures c.in-Ok-read_pattern.ensures
+    c.in-Err-read_pattern-2.r c.in-Err-read_pattern-2.ensures c.refused-in-Err-read_pattern-2.ensures
 
-pub returns-in-Refused : goal.returns-in-Refused
-returns-in-Refused c =
-    let a = c.next_at-a in let d = c.read_document in let m = c.number_of in let r = c.in-Refused.r in
-    let z = document_read c.args.input.now a.result (Refused r) d.new.parents d.new.labels a.ensures c.in-Refused.ensures in
-    document_refused c.args.input.now r d.new.parents d.new.labels m.result m.ensures z c.put_refused.ensures
+pub returns-then-not-is_empty : goal.returns-then-not-is_empty
+returns-then-not-is_empty c =
+    extra_refused (parts (goal.at.returns-then-not-is_empty c).After-split_packet-3) c.in-Ok.ensures c.in-Ok-read_pattern.ensures
+    c.in-Ok-read_pattern-2.ensures (omega (arith, eqb-false _ _ (sym c.is_empty.ensures ∙ c.if-not-is_empty.true))) c.refused-then-not-is_empty.ensures
+
+-- the document that was read obeys the rules
+pub invariant_of-put_answers-3 : goal.invariant_of-put_answers-3
+invariant_of-put_answers-3 c = record {
+  right = ∣ lists_right (parts (goal.at.invariant_of-put_answers-3 c).After-split_packet-3) c.in-Ok.ensures ∣₁;
+}
+
+pub returns : goal.returns
+returns c =
+    all_answered (parts (goal.at.returns c).After-split_packet-3) c.in-Ok.ensures c.in-Ok-read_pattern.ensures c.in-Ok-read_pattern-2.ensures
+    (eqb-true _ _ (sym c.is_empty.ensures ∙ c.if-not-is_empty.false)) c.put_answers.ensures

@@ -1,23 +1,21 @@
 -- `asking::put_third` meets its contract: a line for each answer of the rewriting call. Assumes nothing.
-use Rattle.tables.proofs.Kit.{refl, subst, arith}
-use Rattle.rewriting.specs.Rewriting.{AnswersRewriting}
-use Rattle.asking.specs.{Text.{rewriting_word, line, none_line}, Replies.{handed, none}}
-use Rattle.asking.proofs.{Writing.refused_short}
+use Rattle.tables.proofs.{Kit.arith, Kept.kept_pattern}
+use Rattle.asking.specs.Text.{rewriting_word, none_line}
+use Rattle.asking.proofs.Answering.{lists_short, handed_right, third_handed, third_none, third_refused}
 use Rattle.asking.proofs.put_third.Goals as goal
 
-pub put_refused-requires : goal.put_refused-requires
-put_refused-requires c = omega (arith, refused_short 8 rewriting_word (omega arith))
+-- the line of the answers fits
+pub line-requires : goal.line-requires
+line-requires c =
+    let v = handed_right _ _ _ (rw c.in-Ok-Some.field-0-is at c.in-Ok-Some.ensures) in
+    omega (arith, lists_short ∣ v ∣₁ rewriting_word c.find_started-started.result.now c.args.d.right c.find_started-started.ensures)
 
-pub returns-in-Handed : goal.returns-in-Handed
-returns-in-Handed c =
-    let w = c.rewrite-r in
-    let h = subst (λ a. AnswersRewriting c.args.q c.args.v a w.result.pattern) c.in-Handed.is w.ensures in
-    let l = c.put_started.ensures in
-    record { text = line rewriting_word l.answers; third = handed w.result.pattern l.answers h l.lists refl; wrote = l.wrote }
+pub returns-in-Ok-Some : goal.returns-in-Ok-Some
+returns-in-Ok-Some c = third_handed c.in-Ok-Some.e (rw c.in-Ok-Some.field-0-is at c.in-Ok-Some.ensures) c.find_started-started.ensures c.line.ensures
 
-pub returns-in-Nothing : goal.returns-in-Nothing
+pub returns-in-Ok-None : goal.returns-in-Ok-None
 unfolding none_line
-returns-in-Nothing c =
-    let w = c.rewrite-r in
-    let h = subst (λ a. AnswersRewriting c.args.q c.args.v a w.result.pattern) c.in-Nothing.is w.ensures in
-    record { text = none_line; third = none (h.0, h.1, refl) refl; wrote = c.put_word.ensures }
+returns-in-Ok-None c = third_none (rw c.in-Ok-None.field-0-is at c.in-Ok-None.ensures) c.word.ensures
+
+pub returns-in-Err : goal.returns-in-Err
+returns-in-Err c = third_refused c.in-Err.r (kept_pattern c.args.q.right) (kept_pattern c.args.v.right) c.in-Err.ensures c.refused.ensures

@@ -1,25 +1,25 @@
--- What is looked up is the pattern's plan and the list is cleared, so that all turns leave what fits. Assumes nothing.
-use Rattle.tables.proofs.Kit.{ℕ, ◌*◌, length}
+-- The list is cleared and the plan is the pattern's, so that all turns leave what fits. Assumes nothing.
+use Rattle.tables.proofs.Kit.{ℕ, ◌+◌, ◌*◌, ◌-◌, ◌≤◌, ◌≡◌, ap, ◌∙◌, List, ◌++◌, arith}
+use Rattle.tables.proofs.Kit.{length, get_or, drop, length-append, length-drop, length-take-le, get_or-append-add, get_or-drop}
 use Rattle.tables.specs.Pattern.{shape_of}
-use Rattle.plan.specs.Leading.{ToParent}
-use Rattle.plan.proofs.Bytes.{spread_marks}
-use Rattle.marking.proofs.{Stores.{cleared_zero, cleared_rest, cleared_length}, Upward.fitted_before}
 use Rattle.marking.proofs.fit_nodes.Goals as goal
 
-pub fit_turns-requires-clause-parents_in_bounds : goal.fit_turns-requires-clause-parents_in_bounds
-fit_turns-requires-clause-parents_in_bounds c =
-    let s = c.requires.parents_in_bounds in rw (c.clear.ensures, cleared_length (2 * length c.args.parents.now) c.args.work.now s) s
-
-pub fit_turns-requires-clause-by_index : goal.fit_turns-requires-clause-by_index
-fit_turns-requires-clause-by_index c = λ q l. rw c.clear.ensures (cleared_zero (2 * length c.args.parents.now) c.args.work.now q l)
+-- past the first k entries, which are others now, nothing changes
+past : (k q : ℕ) (ys xs : List ℕ) → length ys ≡ k → k ≤ q → get_or (ys ++ drop k xs) q 0 ≡ get_or xs q 0
+past k q ys xs e l =
+    let j : ℕ = q - k in
+    let f : q ≡ length ys + j = omega arith in
+    let z : k + j ≡ q = omega arith in
+    ap (λ x. get_or (ys ++ drop k xs) x 0) f ∙ get_or-append-add ys (drop k xs) j 0 ∙ get_or-drop k xs j 0 ∙ ap (λ x. get_or xs x 0) z
 
 pub returns : goal.returns
 returns c =
-    let A = shape_of c.args.p in let n : ℕ = length c.args.parents.now in
-    fitted_before A _ c.requires.valid_pattern c.requires.valid_document c.args.seed _ _ _ (cleared_length (2 * n) c.args.work.now c.requires.parents_in_bounds)
-    (cleared_rest (2 * n) c.args.work.now)
-    (rw c.clear.ensures at (c.fit_turns.ensures A (record {
-      labels = c.label_steps.ensures;
-      sets_of = c.gather-sets.ensures.sets;
-      up = spread_marks (ToParent A) _ c.gather-sets.new.parents _ c.gather-sets.ensures.up c.spread.ensures;
-    })))
+    let k : ℕ = 2 * length c.args.d.lists.parents.now in
+    let work = c.args.work.now in
+    let long : length c.fill-2.new.self ≡ k = c.fill-2.ensures.len ∙ length-take-le k work c.requires in
+    let u = c.fit_turns.ensures (shape_of c.args.p.table.now) c.fill.ensures in record {
+      same_length = u.same_length ∙ simp (length-append, length-drop) (omega (arith, long, c.requires));
+      fits = u.fits;
+      seeded = u.seeded;
+      rest = λ q l. u.rest q l ∙ past k q c.fill-2.new.self work long l;
+    }

@@ -1,33 +1,25 @@
--- The list is read once: each entry is at least one more than the one before it, and below n. Assumes nothing.
-use Rattle.tables.proofs.Kit.{suc, ◌≡◌, subst, ⊎_elim, length, get_or, arith, add-one}
-use Rattle.marking.proofs.Starts.{Ascends, ascends_start, ascends_more, ascends_low}
+-- Each entry is compared with the next, and with n. Assumes nothing.
+use Rattle.std.proofs.lemmas.Fn.{always_returns_same}
+use Rattle.std.proofs.lemmas.Iterator.{cases_from_all, YieldsList-from_slice}
+use borrow.Author.Tests.{tests}
+use Rattle.tables.proofs.Kit.{◌≤◌, ◌<◌, ltb, arith, rules}
+use Rattle.marking.proofs.Starts.{ascends, all_below}
 use Rattle.marking.proofs.starts_right.Goals as goal
 
-pub loop-k-init : goal.loop-k-init
-loop-k-init c = (omega arith, ascends_start _ _)
-
-pub returns-then-x-least : goal.returns-then-x-least
-returns-then-x-least c =
-    let x = get_or c.args.starts.now c.loop-k.k 0 in
-    λ d e. (
-      λ t. absurd t,
-      λ w. ⊎_elim (λ q. ascends_low _ _ c.loop-k.k c.loop-k.least c.loop-k.invariant.1 q (omega arith) w.ascending)
-          (λ q. omega (arith, q.1, w.nodes c.loop-k.k (omega arith)))
-          c.then-x-least.either,
-    )
-
-pub loop-k-preserved : goal.loop-k-preserved
-loop-k-preserved c =
+pub returns-then-is_sorted_by : goal.returns-then-is_sorted_by
+returns-then-is_sorted_by c =
     let xs = c.args.starts.now in
-    let k = c.loop-k.k in
-    let r : Ascends xs c.args.n (suc k) (suc (get_or xs k 0)) = ascends_more _ _ k c.loop-k.least c.loop-k.invariant.1 (omega arith)
-    c.if-n-x.false in
-    (omega arith, rw (add-one k) (subst (Ascends xs c.args.n (suc k)) {x = suc (get_or xs k 0)} (omega arith) r))
-
-pub returns : goal.returns
-returns c =
-    let z : c.loop-k.k ≡ length c.args.starts.now = omega arith in
+    let up = ascends xs _ (c.is_sorted_by.ensures.cases ltb (always_returns_same _ _ _ (λ a r f k. search rules))) in
+    let small = all_below xs c.args.n _
+    (cases_from_all _ _ _ (λ x. x < c.args.n) (λ x. c.args.n ≤ x) c.all.ensures.ran (YieldsList-from_slice xs cc) (λ x q k. search (rules, tests))
+    (λ x q k. search (rules, tests))) in
     λ d e. (
-      λ t. record { ascending = λ j h. c.loop-k.invariant.1.up j (omega arith); nodes = λ j h. omega (arith, c.loop-k.invariant.1.small j (omega arith)) },
-      λ w. tt,
+      λ t. record { ascending = up.0 (rw c.if-is_sorted_by.true tt); nodes = λ k l. omega (arith, small.0 t k l) },
+      λ w. small.1 (λ k l. omega (arith, w.nodes k l)),
     )
+
+pub returns-else-is_sorted_by : goal.returns-else-is_sorted_by
+returns-else-is_sorted_by c =
+    let xs = c.args.starts.now in
+    let up = ascends xs _ (c.is_sorted_by.ensures.cases ltb (always_returns_same _ _ _ (λ a r f k. search rules))) in
+    λ d e. (λ t. absurd (rw c.if-is_sorted_by.false at t), λ w. up.1 w.ascending)

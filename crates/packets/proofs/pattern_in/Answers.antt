@@ -1,22 +1,28 @@
--- `packets::pattern_in` meets its contract: the steps before the one looked at stand in the three arrays, with zeros after them. Assumes nothing.
-use Rattle.tables.proofs.Kit.{refl, arith}
-use Rattle.tables.specs.Pattern.{table_of}
+-- `packets::pattern_in` meets its contract: the steps before the row looked at stand in the three arrays, with zeros after them. Assumes nothing.
+use Rattle.tables.proofs.Kit.{◌+◌, ◌*◌, ◌∙◌, refl, arith}
 use Rattle.tables.proofs.Filling.{filled_none, filled_next, filled_all}
 use Rattle.packets.specs.PatternPacket.{packet_shape}
+use Rattle.packets.proofs.Halves.{row_read, row_half}
 use Rattle.packets.proofs.pattern_in.Goals as goal
 
-pub loop-k-init : goal.loop-k-init
-unfolding table_of packet_shape
-loop-k-init c =
-    let a = c.args in
-    filled_none (packet_shape a.s.now) a.n _ c.requires.2 refl (omega (arith, c.requires.0, c.requires.2))
-
-pub loop-k-preserved : goal.loop-k-preserved
+pub loop-row-init : goal.loop-row-init
 unfolding packet_shape
-loop-k-preserved c =
-    filled_next _ _ _ c.loop-k.invariant (omega (arith, c.requires.2)) refl
-    refl c.get_half.ensures
+loop-row-init c =
+    let z = c.requires.1 in
+    filled_none (packet_shape c.args.s.now) _ _ c.no_pattern.ensures refl (omega (arith, z.few, z.field))
+
+pub loop-row-preserved : goal.loop-row-preserved
+unfolding packet_shape
+loop-row-preserved c =
+    let bs = c.args.s.now in
+    let k = c.loop-row.row-index in
+    let front = c.as_chunks.ensures.front in
+    let n = c.as_chunks.ensures.front_len in
+    rw c.push.ensures (filled_next _ _ _ c.loop-row.invariant (omega arith)
+    (row_read bs 4 _ k 0 (4 + 4 * k) front (omega (arith, n)) (omega arith) (omega arith))
+    (row_read bs 4 _ k 1 (5 + 4 * k) front (omega (arith, n)) (omega arith) (omega arith))
+    (c.get_half.ensures ∙ row_half bs 4 _ k 2 (6 + 4 * k) front (omega (arith, n)) (omega arith) (omega arith)))
 
 pub returns : goal.returns
 unfolding packet_shape
-returns c = filled_all c.loop-k.invariant (omega (arith, c.requires.2))
+returns c = filled_all c.loop-row.invariant (omega arith)

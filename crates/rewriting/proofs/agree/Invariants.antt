@@ -8,8 +8,9 @@ use Rattle.rewriting.proofs.agree.Given as goal
 abbrev pub Begun : Pattern → Pattern → ℕ → ℕ → ℕ → Type 0
 Begun q v c s t = ((s ≡ c) × (t ≡ v.output.0)) ⊎ (get_or v.label v.output.0 0 ≡ get_or q.label c 0)
 
-abbrev pub invariant-loop-q : goal.invariant-loop-q
-invariant-loop-q l = Level (shape_of l.q) (shape_of l.v) l.s.0 l.t.0 × Begun l.q l.v l.initial.s.0 l.s.0 l.t.0
+abbrev pub invariant-loop-a : goal.invariant-loop-a
+invariant-loop-a l =
+    Level (shape_of l.q.table.now) (shape_of l.v.table.now) l.s.0 l.t.0 × Begun l.q.table.now l.v.table.now l.initial.s.0 l.s.0 l.t.0
 
-abbrev pub decreases-loop-q : goal.decreases-loop-q
-decreases-loop-q l = l.t.0
+abbrev pub decreases-loop-a : goal.decreases-loop-a
+decreases-loop-a l = l.t.0

@@ -7,14 +7,10 @@ use Rattle.joining.proofs.Order.{join_valid}
 use Rattle.rewriting.proofs.serves.Goals as goal
 
 -- what is compared with the query obeys the rules
-pub same-requires : goal.same-requires
-same-requires c = let a = c.args in (c.requires.valid_pattern, subst ValidPattern (sym c.join_table-j.ensures) (join_valid a.v a.e c.requires.joinable))
+pub invariant_of-same : goal.invariant_of-same
+invariant_of-same c = record { right = ∣ subst ValidPattern (sym c.join_table-j.ensures) (join_valid c.args.v.now c.args.e.now c.requires) ∣₁ }
 
 pub returns : goal.returns
 returns c =
-    let a = c.args in
-    let h = subst (λ (p : Pattern). T c.same.result ↔ Equal (shape_of a.q) (shape_of p)) c.join_table-j.ensures c.same.ensures in
+    let h = subst (λ (p : Pattern). T c.same.result ↔ Equal (shape_of c.args.q.table.now) (shape_of p)) c.join_table-j.ensures c.same.ensures in
     (λ t. equal_sym (h.0 t), λ e. h.1 (equal_sym e))
-
-pub join_table-j-requires : goal.join_table-j-requires
-join_table-j-requires c = c.requires.joinable

@@ -1,10 +1,6 @@
 -- `station::nishkavel_read_document` meets its contract: the answer, as a number. Assumes nothing.
 use Rattle.station.proofs.Small.{reads_small}
-use borrow.Author.Rules.{rules}
 use Rattle.station.proofs.nishkavel_read_document.Goals as goal
-
-pub returns : goal.returns
-returns c = search rules
 
 pub number_of-requires : goal.number_of-requires
 number_of-requires c = reads_small _ _ _ _ _ _ c.read_lists.ensures

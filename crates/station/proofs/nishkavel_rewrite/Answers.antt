@@ -1,10 +1,6 @@
 -- `station::nishkavel_rewrite` meets its contract: the answer, as a number. Assumes nothing.
 use Rattle.station.proofs.Small.{rewrites_small}
-use borrow.Author.Rules.{rules}
 use Rattle.station.proofs.nishkavel_rewrite.Goals as goal
-
-pub returns : goal.returns
-returns c = search rules
 
 pub number_of-requires : goal.number_of-requires
 number_of-requires c = rewrites_small _ _ _ _ _ c.rewrite_packets.ensures
