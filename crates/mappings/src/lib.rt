@@ -104,7 +104,7 @@ fn goes(a: &Pattern, axis: u8, q: StepNo, s: usize) -> bool
 // The smallest step of a that may take step t of a pattern, of this axis, by the table, where the parent step of t is at q. What is below q stands in one run
 // after q: where any step of it may take t, the first after q that fits is not past the run.
 // kept: a loop over the number of the step: with `find` over the numbers the test has each behind a reference, and a `map` behind it makes the step.
-// kept: any table of 64 steps at most, as any lists were before.
+// kept: a table of 64 steps at most, and not one that obeys the rules: no more is asked than the search needs.
 // kept: t is below 64: a StepNo may be any byte, and 255 is the parent of step 0.
 pub fn next_image(a: &Pattern, fit: &[u64; STEPS], t: StepNo, axis: u8, q: StepNo) -> Option<StepNo>
     requires { (a.now.count ≤ 64) × (t.0 < 64) × (q.0 < a.now.count) }
