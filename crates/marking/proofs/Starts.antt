@@ -1,30 +1,42 @@
 -- What tells that a start list is right, and what the loop over it keeps: its nodes are marked. Assumes nothing.
-use Rattle.std.specs.Bool.{MatchBool}
-use Rattle.std.specs.List.{IsAllAdjacentAnswer, AllWithin, HoldsAt}
-use Rattle.tables.proofs.Kit.{ℕ, ◌+◌, ◌*◌, ◌≤◌, ◌<◌, ◌≡◌, ◌↔◌, refl, sym, ap, ◌∙◌, Bool, true, false, T, ltb, ltb-true, ltb-false, List, arith, add-one}
-use Rattle.tables.proofs.Kit.{length, get_or}
+use Rattle.std.specs.List.{IsAllAdjacentAnswer}
+use borrow.Author.Tests.{clash}
+use Rattle.tables.proofs.Kit.{ℕ, zero, suc, ◌+◌, ◌*◌, ◌<◌, ◌≡◌, ◌↔◌, refl, sym, ap, ◌∙◌, Bool, true, false, T, ◌&&◌, List, length, get_or}
+use Rattle.tables.proofs.Kit.{ltb, ltb-true, lt-ltb, arith, add-one}
 use Rattle.placing.specs.Answer.{In, Ascending}
 use Rattle.marking.specs.Entries.{Marked}
 
--- each entry was compared with the next
-pub ascends : (xs : List ℕ) (r : Bool) → IsAllAdjacentAnswer (λ x y b. b ≡ ltb x y) xs r → T r ↔ Ascending xs
-ascends xs true h = (
-  λ t k l. rw (← add-one k) (ltb-true (get_or xs k 0) (get_or xs (k + 1) 0) (sym (h k 0 (omega arith)))),
-  λ w. tt,
-)
-ascends xs false h = (
+-- two tests at once
+two_below : (x y n : ℕ) → ltb x y && ltb y n ≡ true → (x < y) × (y < n)
+two_below x y n e = go (ltb x y) refl
+  where
+    go : (b : Bool) → ltb x y ≡ b → (x < y) × (y < n)
+    go true g = (ltb-true x y g, ltb-true y n (sym (ap (λ c. c && ltb y n) g) ∙ e))
+    go false g = absurd (clash (sym (ap (λ c. c && ltb y n) g) ∙ e))
+
+not_below : (x y n : ℕ) → ltb x y && ltb y n ≡ false → x < y → y < n → ⊥
+not_below x y n e l m = clash (sym e ∙ (ap (λ c. c && ltb y n) (lt-ltb x y l) ∙ lt-ltb y n m))
+
+-- each entry was compared with the next, and that one with n, which the first is below
+pub ascends_below : (xs : List ℕ) (n : ℕ) (r : Bool) → get_or xs 0 0 < n → IsAllAdjacentAnswer (λ x y b. b ≡ ltb x y && ltb y n) xs r
+    → T r ↔ (Ascending xs × ((k : ℕ) → k < length xs → get_or xs k 0 < n))
+ascends_below xs n true f h = (λ t. (ascending, below), λ w. tt)
+  where
+    both : (k : ℕ) → k + 1 < length xs → (get_or xs k 0 < get_or xs (k + 1) 0) × (get_or xs (k + 1) 0 < n)
+    both k l = two_below _ _ n (sym (h k 0 (omega arith)))
+
+    ascending : Ascending xs
+    ascending k l = rw (← add-one k) (both k (omega arith)).0
+
+    below : (k : ℕ) → k < length xs → get_or xs k 0 < n
+    below zero l = f
+    below (suc k) l = rw (← add-one k) (both k (omega arith)).1
+ascends_below xs n false f h = (
   λ t. absurd t,
   λ w.
-      let z = rw (add-one h.0) at (ltb-false (get_or xs h.0 0) (get_or xs (h.0 + 1) 0) (sym (h.2 0))) in
-      absurd (omega (arith, w h.0 (omega (arith, h.1)), z)),
+      let up = rw (← add-one h.0) at (w.0 h.0 (omega (arith, h.1))) in
+      absurd (not_below _ _ n (sym (h.2 0)) up (rw (← add-one h.0) at (w.1 (suc h.0) (omega (arith, h.1))))),
 )
-
--- each entry was compared with n
-pub all_below : (xs : List ℕ) (n : ℕ) (r : Bool)
-    → MatchBool r (AllWithin (λ x. x < n) xs 0 (length xs)) ((k : ℕ) × (k < length xs) × HoldsAt (λ x. n ≤ x) xs k)
-    → T r ↔ ((k : ℕ) → k < length xs → get_or xs k 0 < n)
-all_below xs n true h = (λ t k l. h k 0 (omega arith) l, λ w. tt)
-all_below xs n false h = (λ t. absurd t, λ w. absurd (omega (arith, w h.0 h.1, h.2 0)))
 
 -- the nodes of the first k entries are marked, and nothing else has changed
 pub record MarkedTo (xs before : List ℕ) (k : ℕ) (work : List ℕ) : Type 0 where

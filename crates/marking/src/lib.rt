@@ -28,11 +28,14 @@ fn hand_up(work: &mut [u64], i: NodeNo, p: NodeNo, fit: u64, below: u64, seed: u
     work[over + 1] = work[over + 1] | fit | below;
 }
 
-// Is the list strictly ascending, with every entry below n?
+// Is the list strictly ascending, with every entry below n? One look at each entry, up to the first that is wrong: a list may be long where n is small.
 pub fn starts_right(starts: &[u16], n: usize) -> bool
     ensures { (d : Document) → node_count d ≡ n → T result ↔ StartList d starts.now }
 {
-    starts.is_sorted_by(|a, b| a < b) && starts.iter().all(|start| usize::from(*start) < n)
+    let Some(first) = starts.first() else {
+        return true;
+    };
+    usize::from(*first) < n && starts.is_sorted_by(|a, b| a < b && usize::from(*b) < n)
 }
 
 // Marks the start nodes in a list whose second entries are zero.

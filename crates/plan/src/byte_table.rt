@@ -4,7 +4,7 @@ ghost use Rattle.tables.specs.Bits.{bit};
 ghost use Rattle.plan.specs.Leading.{Doubled, no_table, Spread, looked_up};
 
 // An entry for each of the 8 bytes of a set and each value of that byte: one row after the other, since entry 256c + v is how `Spread` speaks of it.
-const TABLE: usize = 2048;
+pub const TABLE: usize = 2048;
 
 // Doubles the first `top` entries of a block, with m joined to each of the new ones.
 // kept: a list and a number: the half at which the block is parted.

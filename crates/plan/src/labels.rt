@@ -8,7 +8,7 @@ use crate::one_bit;
 use tables::{RightPattern, StepNo};
 
 // The values of a byte.
-const BYTE: usize = 256;
+pub const BYTE: usize = 256;
 
 // The steps by the low byte and by the high byte of their label.
 #[derive(Drop)]

@@ -18,8 +18,11 @@ mod forks;
 mod labels;
 
 use byte_table::ByteTable;
-use edges::{Edges, Sets};
+pub use byte_table::TABLE;
+use edges::Edges;
+pub use edges::Sets;
 use forks::Forks;
+pub use labels::BYTE;
 use labels::Labels;
 use tables::{RightPattern, StepNo};
 

@@ -22,7 +22,7 @@ unfolding bit
 bit_and_lem x y s = bit_at_and x y s
 
 -- the bits where x and y differ
-bit_xor_lem : (x y s : ℕ) → bit (bit_xor x y) s ≡ (bit x s + bit y s) % 2
+pub bit_xor_lem : (x y s : ℕ) → bit (bit_xor x y) s ≡ (bit x s + bit y s) % 2
 unfolding bit
 bit_xor_lem x y s = bit_at_xor x y s
 

@@ -11,6 +11,7 @@ pub mod Rules
 pub mod Kept
 pub mod Filling
 pub mod Refusals
+pub mod Unique
 pub mod Agreement
 pub mod Outcomes
 pub mod Bits

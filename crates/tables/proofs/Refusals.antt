@@ -52,6 +52,20 @@ unfoldable pub verdict : {A : Type 0} → Result A Refusal → Option Refusal
 verdict (Ok a) = None
 verdict (Err q) = Some q
 
+-- an answer by what it hands over
+unfoldable pub handed : {A B : Type 0} → (A → B) → Result A Refusal → Result B Refusal
+handed f (Ok a) = Ok (f a)
+handed f (Err q) = Err q
+
+-- no second answer fits, by what is handed over
+pub handed_unique : {A B : Type 0} (f : A → B) (b : B) (cs : List Check) (r s : Result A Refusal) (Y Y' : Type 0)
+    → Decided cs r (λ a. f a ≡ b) Y → Decided cs s (λ a. f a ≡ b) Y' → handed f r ≡ handed f s
+unfolding handed
+handed_unique f b cs (Ok a) (Ok c) Y Y' h k = ap Ok (h.1 ∙ sym k.1)
+handed_unique f b cs (Ok a) (Err q) Y Y' h k = absurd (refuses_not_passes cs q k.0 h.0)
+handed_unique f b cs (Err q) (Ok c) Y Y' h k = absurd (refuses_not_passes cs q h.0 k.0)
+handed_unique f b cs (Err q) (Err t) Y Y' h k = ap Err (refuses_unique cs q t h.0 k.0)
+
 -- one verdict fits, whatever is handed over
 pub verdict_unique : {A B : Type 0} (cs : List Check) (a : Result A Refusal) (b : Result B Refusal) (X : A → Type 0) (Y : Type 0) (X' : B → Type 0)
     (Y' : Type 0)

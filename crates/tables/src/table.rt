@@ -92,7 +92,7 @@ fn row_right<R: Table>(rows: &R, i: usize, root: usize) -> bool
     requires by_index { (k : ℕ) → k < i → RowRule (R.rows rows.now) root k }
     ensures { T result ↔ RowRule (R.rows rows.now) root i }
 {
-    hangs(rows, i, root) && rows.axis(i) <= 1 && rows.label(i) != 0
+    rows.axis(i) <= 1 && rows.label(i) != 0 && hangs(rows, i, root)
 }
 
 // Does each of the n rows obey its rule, where row 0 hangs on the mark `root`?

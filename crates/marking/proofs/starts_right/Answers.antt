@@ -1,25 +1,16 @@
--- Each entry is compared with the next, and with n. Assumes nothing.
-use Rattle.std.proofs.lemmas.Fn.{always_returns_same}
-use Rattle.std.proofs.lemmas.Iterator.{cases_from_all, YieldsList-from_slice}
-use borrow.Author.Tests.{tests}
-use Rattle.tables.proofs.Kit.{◌≤◌, ◌<◌, ltb, arith, rules}
-use Rattle.marking.proofs.Starts.{ascends, all_below}
+-- Each entry is compared with the one before it, and with n. Assumes nothing.
+use Rattle.std.proofs.lemmas.{Fn.always_returns_same, Option.get_or_from_slice_get}
+use Rattle.tables.proofs.Kit.{◌&&◌, sym, ltb, arith, rules}
+use Rattle.marking.proofs.Starts.{ascends_below}
 use Rattle.marking.proofs.starts_right.Goals as goal
 
-pub returns-then-is_sorted_by : goal.returns-then-is_sorted_by
-returns-then-is_sorted_by c =
+pub returns-then-from-n : goal.returns-then-from-n
+returns-then-from-n c =
     let xs = c.args.starts.now in
-    let up = ascends xs _ (c.is_sorted_by.ensures.cases ltb (always_returns_same _ _ _ (λ a r f k. search rules))) in
-    let small = all_below xs c.args.n _
-    (cases_from_all _ _ _ (λ x. x < c.args.n) (λ x. c.args.n ≤ x) c.all.ensures.ran (YieldsList-from_slice xs cc) (λ x q k. search (rules, tests))
-    (λ x q k. search (rules, tests))) in
+    let n = c.args.n in
+    let up = ascends_below xs n _ (omega (arith, get_or_from_slice_get xs 0 c.in-Some.first.now 0 (sym c.in-Some.ensures.value)))
+    (c.is_sorted_by.ensures.cases (λ x y. ltb x y && ltb y n) (always_returns_same _ _ _ (λ a r f k. search rules))) in
     λ d e. (
-      λ t. record { ascending = up.0 (rw c.if-is_sorted_by.true tt); nodes = λ k l. omega (arith, small.0 t k l) },
-      λ w. small.1 (λ k l. omega (arith, w.nodes k l)),
+      λ t. let h = up.0 t in record { ascending = h.0; nodes = λ k l. omega (arith, h.1 k l) },
+      λ w. up.1 (w.ascending, λ k l. omega (arith, w.nodes k l)),
     )
-
-pub returns-else-is_sorted_by : goal.returns-else-is_sorted_by
-returns-else-is_sorted_by c =
-    let xs = c.args.starts.now in
-    let up = ascends xs _ (c.is_sorted_by.ensures.cases ltb (always_returns_same _ _ _ (λ a r f k. search rules))) in
-    λ d e. (λ t. absurd (rw c.if-is_sorted_by.false at t), λ w. up.1 w.ascending)
