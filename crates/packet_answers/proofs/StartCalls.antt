@@ -52,7 +52,7 @@ module _ {ds ps : List ℕ} {lists : Lists} {p : Pattern} (t : BothRead ds ps li
       }
 
   -- the call's own lists have room for the document
-  has_room : HasRoom (packet_document ds) (length list₀) (length work₀)
+  pub has_room : HasRoom (packet_document ds) (length list₀) (length work₀)
   has_room = (omega (arith, both_few t, nodes, length-replicate {A = ℕ} 2048 0), omega (arith, both_few t, nodes, length-replicate {A = ℕ} 4096 0))
 
   module _ (xs list work : List ℕ) (g : xs ≡ unpacked ss) (even : length ss % 2 ≡ 0) where

@@ -37,17 +37,17 @@ module _ (xs ys : List ℕ) where
   abbrev B : Pattern
   B = packet_pattern ys
 
-  module _ (a b : Pattern) (s : ReadsTwo xs ys (Ok (a, b))) (parents labels : List ℕ) where
+  module _ (two : Pattern × Pattern) (s : ReadsTwo xs ys (Ok two)) (parents labels : List ℕ) where
     right : TwoRight xs ys
     right = two_of xs ys s.says.0
 
     -- the call in terms of the packets
-    here : (f : Result ContainmentAnswer Refusal) → DecidesContainment a b (replicate 128 0) (replicate 128 0) f parents labels
+    here : (f : Result ContainmentAnswer Refusal) → DecidesContainment two.0 two.1 (replicate 128 0) (replicate 128 0) f parents labels
         → DecidesContainment A B (replicate 128 0) (replicate 128 0) f parents labels
     here f h = subst₂ (λ x y. DecidesContainment x y (replicate 128 0) (replicate 128 0) f parents labels) s.says.1.0 s.says.1.1 h
 
     -- the call refuses for the label alone
-    pub contains_refused : {room : List ℕ} (r : Refusal) → DecidesContainment a b (replicate 128 0) (replicate 128 0) (Err r) parents labels
+    pub contains_refused : {room : List ℕ} (r : Refusal) → DecidesContainment two.0 two.1 (replicate 128 0) (replicate 128 0) (Err r) parents labels
         → ContainsPackets xs ys room (Err r) room
     contains_refused {room} r h =
         let w = (here (Err r) h).0 in let m = witness_few right.first.right in
@@ -63,7 +63,7 @@ module _ (xs ys : List ℕ) where
           );
         }
 
-    module _ (f : ContainmentAnswer) (h : DecidesContainment a b (replicate 128 0) (replicate 128 0) (Ok f) parents labels) where
+    module _ (f : ContainmentAnswer) (h : DecidesContainment two.0 two.1 (replicate 128 0) (replicate 128 0) (Ok f) parents labels) where
       -- the checks before the room pass
       passes : Passes (front ++ fresh_check A B)
       passes = passes_both front (fresh_check A B) s.says.0 ((here (Ok f) h).0.1.1.0, tt)

@@ -32,12 +32,12 @@ module _ (us es : List ℕ) where
   abbrev join_room : List ℕ → List Check
   join_room room₀ = room_for (length_of (join_of U E)) (length room₀)
 
-  module _ (u e : Pattern) (h : ReadsTwo us es (Ok (u, e))) where
+  module _ (two : Pattern × Pattern) (h : ReadsTwo us es (Ok two)) where
     -- the join of the packets' patterns
-    joined : (j : Result Pattern Refusal) → Joins u e j → Joins U E j
+    joined : (j : Result Pattern Refusal) → Joins two.0 two.1 j → Joins U E j
     joined j g = subst₂ (λ x y. Joins x y j) h.says.1.0 h.says.1.1 g
 
-    pub join_written : {room₀ room : List ℕ} (p : Pattern) (a : Result ℕ Refusal) → Joins u e (Ok p) → WritesPattern p room₀ a room
+    pub join_written : {room₀ room : List ℕ} (p : Pattern) (a : Result ℕ Refusal) → Joins two.0 two.1 (Ok p) → WritesPattern p room₀ a room
         → JoinsPackets us es room₀ a room
     join_written {room₀} {room} p a g w =
         let d = joined (Ok p) g in
@@ -63,11 +63,11 @@ module _ (qs us : List ℕ) where
   abbrev last : List ℕ → List Check
   last room₀ = record { asks = (E : Pattern) → ServesBy Q W E → length_of E ≤ length room₀; gives = 5 } ∷ []
 
-  module _ (q u : Pattern) (h : ReadsTwo qs us (Ok (q, u))) where
-    there : (w : Result (Option Pattern) Refusal) → Rewrites q u w → Rewrites Q W w
+  module _ (two : Pattern × Pattern) (h : ReadsTwo qs us (Ok two)) where
+    there : (w : Result (Option Pattern) Refusal) → Rewrites two.0 two.1 w → Rewrites Q W w
     there w g = subst₂ (λ x y. Rewrites x y w) h.says.1.0 h.says.1.1 g
 
-    pub rewrite_handed : {room₀ room : List ℕ} (p : Pattern) (a : Result ℕ Refusal) → Rewrites q u (Ok (Some p)) → WritesPattern p room₀ a room
+    pub rewrite_handed : {room₀ room : List ℕ} (p : Pattern) (a : Result ℕ Refusal) → Rewrites two.0 two.1 (Ok (Some p)) → WritesPattern p room₀ a room
         → RewritesPackets qs us room₀ a room
     rewrite_handed {room₀} {room} p a g x =
         let n = there (Ok (Some p)) g in let s : ServesBy Q W p = n.1 in

@@ -22,8 +22,8 @@ const ROOM: usize = 517;
 pub fn join_packets(view: &[u8], compensation: &[u8], room: &mut [u8]) -> Result<usize, Refusal>
     ensures { JoinsPackets view.now compensation.now room.old result room.new }
 {
-    let (v, e) = packets::read_two(view, compensation)?;
-    let joined = joining::join(&v, &e)?;
+    let two = packets::read_two(view, compensation)?;
+    let joined = joining::join(&two.0, &two.1)?;
     packets::write_pattern(&joined, room)
 }
 
@@ -31,8 +31,10 @@ pub fn join_packets(view: &[u8], compensation: &[u8], room: &mut [u8]) -> Result
 pub fn rewrite_packets(query: &[u8], view: &[u8], room: &mut [u8]) -> Result<usize, Refusal>
     ensures { RewritesPackets query.now view.now room.old result room.new }
 {
-    let (q, v) = packets::read_two(query, view)?;
-    let handed = rewriting::rewrite_right(RightPattern { table: &q }, RightPattern { table: &v })?;
+    let two = packets::read_two(query, view)?;
+    let q = RightPattern { table: &two.0 };
+    let v = RightPattern { table: &two.1 };
+    let handed = rewriting::rewrite_right(q, v)?;
     match handed {
         Some(e) => packets::write_pattern(&e, room),
         None => Ok(0),
@@ -82,9 +84,9 @@ pub fn contain_packets(a: &[u8], b: &[u8], room: &mut [u8]) -> Result<usize, Ref
 {
     let mut parents = [0; 128];
     let mut labels = [0; 128];
-    let (p, q) = packets::read_two(a, b)?;
-    let first = RightPattern { table: &p };
-    let second = RightPattern { table: &q };
+    let two = packets::read_two(a, b)?;
+    let first = RightPattern { table: &two.0 };
+    let second = RightPattern { table: &two.1 };
     let found = containment::contains_right(first, second, &mut parents, &mut labels)?;
     match found.answer {
         Containment::Contained => put_mapping(&found.mapping, room),

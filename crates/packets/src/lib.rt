@@ -4,7 +4,7 @@
 
 ghost use Rattle.std.specs.Prelude.{ℕ, ◌+◌, ◌*◌, ◌/◌, ◌≤◌, ◌<◌, ◌≡◌, [], ◌∷◌, ◌++◌, length, take, drop};
 ghost use Rattle.tables.specs.Document.{of_lists};
-ghost use Rattle.tables.specs.Pattern.{shape_of};
+ghost use Rattle.tables.specs.Pattern.{shape_of, zero_pattern};
 ghost use Rattle.tables.specs.Refusal.{Decided};
 ghost use Rattle.halves.specs.Bytes.{high, low, half};
 ghost use Rattle.packets.specs.Header.{Sized, head_checks};
@@ -33,20 +33,17 @@ fn rows_in(s: &[u8], extra: usize, most: usize) -> Result<usize, Refusal>
     Ok(n)
 }
 
-// The pattern that a packet holds: zeros past its steps.
-fn pattern_in(s: &[u8]) -> Pattern
-    requires { (n : ℕ) × Sized s.now 1 64 n }
-    ensures { result ≡ packet_pattern s.now }
+// The pattern that a packet holds comes to that of no steps: zeros past its steps.
+fn pattern_in(s: &[u8], p: &mut Pattern)
+    requires sized { (n : ℕ) × Sized s.now 1 64 n }
+    requires none { p.old ≡ zero_pattern }
+    ensures { p.new ≡ packet_pattern s.now }
 {
     let (rows, _) = s[4..].as_chunks::<4>();
-    let mut p = Pattern {
-        output: StepNo(s[3]),
-        ..tables::no_pattern()
-    };
+    p.output = StepNo(s[3]);
     for row in rows {
         p.push(StepNo(row[0]), row[1], halves::get_half(row, 2));
     }
-    p
 }
 
 // The pattern of a packet, which obeys the rules. Refused by Length, Version, Length or BadPattern, the first that applies.
@@ -54,7 +51,8 @@ pub fn read_pattern(s: &[u8]) -> Result<Pattern, Refusal>
     ensures { ReadsPattern s.now result }
 {
     rows_in(s, 1, STEPS)?;
-    let p = pattern_in(s);
+    let mut p = tables::no_pattern();
+    pattern_in(s, &mut p);
     tables::check_pattern(&p)?;
     Ok(p)
 }
@@ -63,9 +61,7 @@ pub fn read_pattern(s: &[u8]) -> Result<Pattern, Refusal>
 pub fn read_two(a: &[u8], b: &[u8]) -> Result<(Pattern, Pattern), Refusal>
     ensures { ReadsTwo a.now b.now result }
 {
-    let first = read_pattern(a)?;
-    let second = read_pattern(b)?;
-    Ok((first, second))
+    Ok((read_pattern(a)?, read_pattern(b)?))
 }
 
 // Puts the version and the length field at the front of `out`.

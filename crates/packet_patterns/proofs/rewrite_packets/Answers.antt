@@ -4,5 +4,5 @@ use Rattle.packet_patterns.proofs.rewrite_packets.Goals as goal
 
 pub returns-in-Some : goal.returns-in-Some
 returns-in-Some c =
-    let t = c.in_ok-q in
-    rewrite_handed _ _ t.q t.v t.ensures c.in-Some.e c.write_pattern.result (rw c.in-Some.is at c.in_ok-handed.ensures) c.write_pattern.ensures
+    let t = c.in_ok-two in
+    rewrite_handed _ _ t.two t.ensures c.in-Some.e c.write_pattern.result (rw c.in-Some.is at c.in_ok-handed.ensures) c.write_pattern.ensures

@@ -8,8 +8,8 @@ use Rattle.packets.proofs.pattern_in.Goals as goal
 pub loop-row-init : goal.loop-row-init
 unfolding packet_shape
 loop-row-init c =
-    let z = c.requires.1 in
-    filled_none (packet_shape c.args.s.now) _ _ c.no_pattern.ensures refl (omega (arith, z.few, z.field))
+    let z = c.requires.sized.1 in
+    filled_none (packet_shape c.args.s.now) _ _ c.requires.none refl (omega (arith, z.few, z.field))
 
 pub loop-row-preserved : goal.loop-row-preserved
 unfolding packet_shape
