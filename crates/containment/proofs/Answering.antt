@@ -16,9 +16,13 @@ fresh_missing A B None r e f =
     (cc, λ w. ⊎_elim w.1.not_first w.1.not_second (f w.0 w.1.label.least (omega (arith, w.1.label.most))))
 
 module _ (A B : Pattern) (a b : ℕ) (va : ValidPattern A) (vb : ValidPattern B) where
-  pub label_refuses : (o : Option ℕ) → FreshOrNone (shape_of A) (shape_of B) o → (r : Refusal) → Err r ≡ ok_or o NoLabel → Refuses
+  pub label_refuses : ((l : ℕ) × Fresh (shape_of A) (shape_of B) l → ⊥) → Refuses (containment_checks A B a b) NoLabel
+  label_refuses n = inr (va, inr (vb, inl (n, refl)))
+
+  -- the same of what was searched for
+  pub missing_refuses : (o : Option ℕ) → FreshOrNone (shape_of A) (shape_of B) o → (r : Refusal) → Err r ≡ ok_or o NoLabel → Refuses
       (containment_checks A B a b) r
-  label_refuses o f r e = let h = fresh_missing (shape_of A) (shape_of B) o r e f in rw h.0 (inr (va, inr (vb, inl (h.1, refl))))
+  missing_refuses o f r e = let h = fresh_missing (shape_of A) (shape_of B) o r e f in rw h.0 (label_refuses h.1)
 
   module _ (l : ℕ) (f : Fresh (shape_of A) (shape_of B) l) where
     pub room_refuses : ((witness_size (shape_of A) ≤ a) × (witness_size (shape_of A) ≤ b) → ⊥) → Refuses (containment_checks A B a b) Room

@@ -8,13 +8,13 @@ ghost use Rattle.joining.specs.Join.{renumber, join_of, Joinable, Joins};
 use tables::{Pattern, Refusal, STEPS, StepNo};
 
 // The number that step s of a view has in a join that takes `more` steps after the view's output step o.
-fn renumbered(s: StepNo, o: u8, more: usize) -> StepNo
+fn renumbered(s: StepNo, o: StepNo, more: usize) -> StepNo
     requires { s.0 + more ≤ 255 }
-    ensures { result.0 ≡ renumber o more s.0 }
+    ensures { result.0 ≡ renumber o.0 more s.0 }
 {
     // kept: numbers are compared, here and in `cut_size`. Tried by `PartialOrd`: `<` is then a call that is told by `nat_cmp`, which each proof has to turn
     // back into numbers, and the library has a lemma for one way only.
-    if o < s.0 {
+    if o.0 < s.0 {
         return StepNo(s.0 + more as u8);
     }
     s
@@ -27,15 +27,15 @@ pub fn join_table(v: &Pattern, e: &Pattern) -> Pattern
     requires { Joinable v.now e.now }
     ensures { result ≡ join_of v.now e.now }
 {
-    let o = v.output.0;
-    let last = usize::from(o);
+    let o = v.output;
+    let last = usize::from(o.0);
     let mut p = tables::no_pattern();
-    p.output = StepNo(o + e.output.0);
+    p.output = StepNo(o.0 + e.output.0);
     for s in 0..last + 1 {
         p.push(v.parent[s], v.axis[s], v.label[s]);
     }
     for t in 1..e.count {
-        p.push(StepNo(o + e.parent[t].0), e.axis[t], e.label[t]);
+        p.push(StepNo(o.0 + e.parent[t].0), e.axis[t], e.label[t]);
     }
     for s in last + 1..v.count {
         p.push(

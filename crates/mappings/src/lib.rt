@@ -36,13 +36,16 @@ fn fits(plan: &GroupedPlan, output: u64, label: u16, last: bool, c: u64, d: u64)
 }
 
 // Step i gets what fits at it, f; its parent p gathers f below it, and g, what of f fits along a child edge.
-fn hand_up(fit: &mut [u64; STEPS], under: &mut [u64; STEPS], i: usize, p: usize, f: u64, g: u64)
-    requires { (p < i) × (i < 64) }
-    ensures { Turned i p f g (get_or under.old i 0) (entries fit.old) (entries under.old) (entries fit.new) (entries under.new) }
+fn hand_up(fit: &mut [u64; STEPS], under: &mut [u64; STEPS], i: StepNo, p: StepNo, f: u64, g: u64)
+    requires { (p.0 < i.0) × (i.0 < 64) }
+    ensures { Turned i.0 p.0 f g (get_or under.old i.0 0) (entries fit.old) (entries under.old) (entries fit.new)
+        (entries under.new) }
 {
-    fit[i] = f;
-    fit[p] |= g;
-    under[p] = under[p] | f | under[i];
+    let own = usize::from(i.0);
+    let over = usize::from(p.0);
+    fit[own] = f;
+    fit[over] |= g;
+    under[over] = under[over] | f | under[own];
 }
 
 // Which steps of b fit at each step of a: what is looked up of b is filled first, then a pass goes from the last step of a to the first.
@@ -60,7 +63,7 @@ pub fn fit_steps(a: RightPattern<'_>, b: RightPattern<'_>) -> [u64; STEPS]
     for i in (1..p.count).rev() {
         let f = fits(&plan, output, p.label[i], i == own, fit[i], under[i]);
         let g = along(p.axis[i], f);
-        hand_up(&mut fit, &mut under, i, usize::from(p.parent[i].0), f, g);
+        hand_up(&mut fit, &mut under, StepNo(i as u8), p.parent[i], f, g);
     }
     fit[0] = fits(&plan, output, p.label[0], 0 == own, fit[0], under[0]);
     fit
@@ -94,11 +97,12 @@ pub fn first_image(a: &Pattern, axis: u8, fit: &[u64; STEPS]) -> Option<StepNo>
 }
 
 // May step s of a take a step of this axis, where the parent step of that is at q and s is below q?
-fn goes(a: &Pattern, axis: u8, q: StepNo, s: usize) -> bool
-    requires { s < 64 }
-    ensures { let A = shape_of a.now in T result ↔ (axis ≡ 0 → (A.tree.parent s ≡ q.0) × (A.axis s ≡ 0)) }
+fn goes(a: &Pattern, axis: u8, q: StepNo, s: StepNo) -> bool
+    requires { s.0 < 64 }
+    ensures { let A = shape_of a.now in T result ↔ (axis ≡ 0 → (A.tree.parent s.0 ≡ q.0) × (A.axis s.0 ≡ 0)) }
 {
-    axis != 0 || (a.parent[s] == q && a.axis[s] == 0)
+    let row = usize::from(s.0);
+    axis != 0 || (a.parent[row] == q && a.axis[row] == 0)
 }
 
 // The smallest step of a that may take step t of a pattern, of this axis, by the table, where the parent step of t is at q. What is below q stands in one run
@@ -112,8 +116,9 @@ pub fn next_image(a: &Pattern, fit: &[u64; STEPS], t: StepNo, axis: u8, q: StepN
 {
     let at = usize::from(q.0);
     for s in at + 1..a.count {
-        if plan::has_bit(fit[s], t) && goes(a, axis, q, s) {
-            return Some(StepNo(s as u8));
+        let step = StepNo(s as u8);
+        if plan::has_bit(fit[s], t) && goes(a, axis, q, step) {
+            return Some(step);
         }
     }
     None

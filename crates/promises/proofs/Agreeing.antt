@@ -42,10 +42,10 @@ refuses_alike (c ∷ cs) (d ∷ ds) r a h =
     ⊎_elim (λ w. inl (λ x. w.0 (a.0.1 x), w.1 ∙ a.1)) (λ w. inr (a.0.0 w.0, refuses_alike cs ds r (a.2 w.0) w.1)) h
 
 -- so a call answers alike by either
-pub decided_alike : {A : Type 0} (cs ds : List Check) (r : Result A Refusal) (X X' : A → Type 0) (Y : Type 0) → SameChecks cs ds
-    → (Passes cs → (c : A) → X c → X' c) → Decided cs r X Y → Decided ds r X' Y
-decided_alike cs ds (Ok c) X X' Y a f h = (passes_alike cs ds a h.0, f h.0 c h.1)
-decided_alike cs ds (Err r) X X' Y a f h = (refuses_alike cs ds r a h.0, h.1)
+pub decided_alike : {A : Type 0} (cs ds : List Check) (r : Result A Refusal) (X X' : A → Type 0) (Y Y' : Type 0) → SameChecks cs ds
+    → (Passes cs → (c : A) → X c → X' c) → (Y → Y') → Decided cs r X Y → Decided ds r X' Y'
+decided_alike cs ds (Ok c) X X' Y Y' a f g h = (passes_alike cs ds a h.0, f h.0 c h.1)
+decided_alike cs ds (Err r) X X' Y Y' a f g h = (refuses_alike cs ds r a h.0, g h.1)
 
 module _ {A B : Shape} (e : Agree A B) where
   -- steps of the one are steps of the other

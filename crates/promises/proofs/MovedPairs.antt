@@ -62,8 +62,9 @@ module _ {A A' B B' : Pattern} (e : SameSteps A A') (f : SameSteps B B') where
       let a = length parents₀ in let b = length labels₀ in
       decided_alike (containment_checks A B a b) (containment_checks A' B' a b) r
       (λ t. AnswersContainment A B parents₀ labels₀ t.answer t.mapping parents labels)
-      (λ t. AnswersContainment A' B' parents₀ labels₀ t.answer t.mapping parents labels) ((parents ≡ parents₀) × (labels ≡ labels₀)) (contains_checks_lem a b)
-      (λ p t. contains_answer_fit parents₀ labels₀ t.answer t.mapping parents labels p.0 p.1.0)
+      (λ t. AnswersContainment A' B' parents₀ labels₀ t.answer t.mapping parents labels) ((parents ≡ parents₀) × (labels ≡ labels₀))
+      ((parents ≡ parents₀) × (labels ≡ labels₀)) (contains_checks_lem a b)
+      (λ p t. contains_answer_fit parents₀ labels₀ t.answer t.mapping parents labels p.0 p.1.0) (λ x. x)
 
   -- equality
   equal_checks : SameChecks (pair_checks A B) (pair_checks A' B')
@@ -85,18 +86,18 @@ module _ {A A' B B' : Pattern} (e : SameSteps A A') (f : SameSteps B B') where
 
   pub join_fit : (r : Result Pattern Refusal) → Joins A B r → Joins A' B' r
   join_fit r =
-      decided_alike (join_checks A B) (join_checks A' B') r (λ p. p ≡ join_of A B) (λ p. p ≡ join_of A' B') (Unit {0}) join_checks_lem
-      (λ v p x. x ∙ join_alike e f v.0 v.1.0)
+      decided_alike (join_checks A B) (join_checks A' B') r (λ p. p ≡ join_of A B) (λ p. p ≡ join_of A' B') (Unit {0}) (Unit {0}) join_checks_lem
+      (λ v p x. x ∙ join_alike e f v.0 v.1.0) (λ x. x)
 
 module _ {A A' B B' : Pattern} (e : SameSteps A A') (f : SameSteps B B') where
   pub equal_fit : (r : Result Bool Refusal) → DecidesEquality A B r → DecidesEquality A' B' r
   equal_fit r =
       decided_alike (pair_checks A B) (pair_checks A' B') r (λ b. T b ↔ Equal (shape_of A) (shape_of B)) (λ b. T b ↔ Equal (shape_of A') (shape_of B'))
-      (Unit {0})
+      (Unit {0}) (Unit {0})
       (equal_checks e f) (λ p b h. (
         λ t. equal_same e f p.0 p.1.0 (h.0 t),
         λ x. h.1 (equal_same (same_sym e) (same_sym f) ((valid_alike e).0 p.0) ((valid_alike f).0 p.1.0) x),
-      ))
+      )) (λ x. x)
 
 -- a compensation serves alike
 serves_alike : {Q Q' U U' : Pattern} → SameSteps Q Q' → SameSteps U U' → ValidPattern Q → (E : Pattern) → Serves Q U E → Serves Q' U' E
@@ -125,5 +126,5 @@ module _ {Q Q' U U' : Pattern} (e : SameSteps Q Q') (f : SameSteps U U') where
 
   pub rewrite_fit : (r : Result (Option Pattern) Refusal) → Rewrites Q U r → Rewrites Q' U' r
   rewrite_fit r =
-      decided_alike (rewriting_checks Q U) (rewriting_checks Q' U') r (AnswersRewriting Q U) (AnswersRewriting Q' U') (Unit {0}) rewrite_checks
-      (λ p a. rewrite_answer_fit a p.0 p.1.0)
+      decided_alike (rewriting_checks Q U) (rewriting_checks Q' U') r (AnswersRewriting Q U) (AnswersRewriting Q' U') (Unit {0}) (Unit {0}) rewrite_checks
+      (λ p a. rewrite_answer_fit a p.0 p.1.0) (λ x. x)

@@ -4,7 +4,7 @@ use Rattle.std.proofs.Common.{rules}
 use Rattle.tables.specs.{Column.{blocks, step_array}, Pattern.shape_of}
 use Rattle.tables.proofs.Kept.{kept_pattern}
 use Rattle.containment.specs.{Witness.{Fresh}}
-use Rattle.containment.proofs.Answering.{fresh_found, label_refuses, room_refuses, all_pass}
+use Rattle.containment.proofs.Answering.{fresh_found, missing_refuses, room_refuses, all_pass}
 use Rattle.containment.proofs.contains_right.Goals as goal
 use Rattle.containment.proofs.contains_right.Goals.{In_ok-label, Else-labels-m}
 
@@ -15,7 +15,7 @@ free c = fresh_found _ _ c.fresh.result c.in_ok-label.label c.in_ok-label.ensure
 pub returns-in_err-label : goal.returns-in_err-label
 returns-in_err-label c =
     let a = c.args in
-    let h = label_refuses a.a.table.now a.b.table.now (length a.parents.now) (length a.labels.now) (kept_pattern a.a.right) (kept_pattern a.b.right)
+    let h = missing_refuses a.a.table.now a.b.table.now (length a.parents.now) (length a.labels.now) (kept_pattern a.a.right) (kept_pattern a.b.right)
     c.fresh.result c.fresh.ensures in
     search (rules, h)
 

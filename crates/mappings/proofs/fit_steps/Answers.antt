@@ -17,7 +17,7 @@ pub hand_up-requires : goal.hand_up-requires
 hand_up-requires c =
     let v : ValidPattern c.args.a.table.now = kept_pattern c.args.a.right in
     let i = c.loop-i.invariant in
-    (omega (arith, c.from.ensures, parent_lt (shape_ordered v) (c.loop-i.i - 1) (omega arith) (omega arith)), omega (arith, v.few))
+    (omega (arith, parent_lt (shape_ordered v) (c.loop-i.i - 1) (omega arith) (omega arith)), omega (arith, v.few))
 
 pub loop-i-preserved : goal.loop-i-preserved
 loop-i-preserved c =
@@ -38,7 +38,7 @@ loop-i-preserved c =
           let f = step_fits B A p.sets_of.valid v i (eqb i P.output.0) _ _ l (o.says, o.test) u _
           (rw c.from-own.ensures at (c.fits-f.ensures B p e)) in
           risen_turn (rows_of A) (FitsIn B A) (shape_ordered v) i _ _ _ _ _ _ _ (record { late = omega arith; here = l; up = refl }) u f
-          (rw c.along-g.ensures (along (rows_of A) (FitsIn B A) i _ (A.axis i) refl f)) (rw c.from.ensures at c.hand_up.ensures),
+          (rw c.along-g.ensures (along (rows_of A) (FitsIn B A) i _ (A.axis i) refl f)) c.hand_up.ensures,
     )
 
 pub returns : goal.returns
