@@ -15,7 +15,7 @@ use Rattle.asking.proofs.Writing.{grew_then, line_short}
 -- answers of a pattern in a document, both of which obey the rules
 module _ {First : ℕ → Type 0} {A : Shape} (v : ∥ ValidShape A ∥₁) where
   -- an answer is a node of the document
-  lists_nodes : (d : Document) (xs : List ℕ) → Lists (Started First A d) xs → (k : ℕ) → k < length xs → get_or xs k 0 < node_count d
+  pub lists_nodes : (d : Document) (xs : List ℕ) → Lists (Started First A d) xs → (k : ℕ) → k < length xs → get_or xs k 0 < node_count d
   lists_nodes d xs h k l =
       let s = h.sound (get_or xs k 0) (record { place = k; early = l; is = refl }) in
       omega (arith, (s.sends.takes A.output (kept_pattern v).output).here, s.at)
@@ -30,12 +30,12 @@ module _ {First : ℕ → Type 0} {A : Shape} (v : ∥ ValidShape A ∥₁) wher
       let few = (kept_document m).few in
       line_short w xs (omega (arith, few, answers_few First A d xs (kept_pattern v).output h)) (λ k l. omega (arith, few, lists_nodes d xs h k l))
 
--- a compensation that is handed over obeys the rules
-pub handed_right : (Q U E : Pattern) → Rewrites Q U (Ok (Some E)) → ValidPattern E
-handed_right Q U E h = h.1.1.joinable.1.0
+-- a compensation that is handed over obeys the rules, and its step 0 has axis child
+pub handed_right : (Q U E : Pattern) → Rewrites Q U (Ok (Some E)) → ValidPattern E × (get_or E.axis 0 0 ≡ 0)
+handed_right Q U E h = let j = h.1.1.joinable in (j.1.0, j.1.1.0)
 
 -- two patterns that are right are refused by their size alone
-refused_large : (Q U : Pattern) (r : Refusal) → ValidPattern Q → ValidPattern U → Refuses (rewriting_checks Q U) r → r ≡ TooLarge
+pub refused_large : (Q U : Pattern) (r : Refusal) → ValidPattern Q → ValidPattern U → Refuses (rewriting_checks Q U) r → r ≡ TooLarge
 refused_large Q U r q u h =
     number_unique r TooLarge (⊎_elim (λ w. absurd (w.0 q)) (λ w. ⊎_elim (λ x. absurd (x.0 u)) (λ x. ⊎_elim (λ y. y.1) (λ y. absurd y.1) x.1) w.1) h)
 

@@ -45,18 +45,22 @@ pub record Parted (bs d v q t : List ℕ) : Type 0 where
   pub query : q ≡ query_part bs
   pub rest : t ≡ drop (parts_end bs) bs
 
+-- the packet that is split off what follows byte o is the packet at byte o
+pub packet_after : (bs : List ℕ) {r v : List ℕ} (o : ℕ) → r ≡ drop o bs → v ≡ packet_at r 0 → v ≡ packet_at bs o
+packet_after bs o b e = e ∙ ap (λ l. packet_at l 0) b ∙ later_packet bs o
+
+-- and what is left of it follows that packet
+pub rest_after : (bs : List ℕ) {r s : List ℕ} (o : ℕ) → r ≡ drop o bs → s ≡ drop (next_at r 0) r → s ≡ drop (next_at bs o) bs
+rest_after bs o b f = f ∙ ap (λ l. drop (next_at l 0) l) b ∙ later_rest bs o
+
 -- split off one after another
 pub parted : {bs d r v s q t : List ℕ} → d ≡ packet_at bs 0 → r ≡ drop (next_at bs 0) bs → v ≡ packet_at r 0 → s ≡ drop (next_at r 0) r → q ≡ packet_at s 0
     → t ≡ drop (next_at s 0) s → Parted bs d v q t
-parted {bs} {d} {r} {v} {s} {q} {t} a b e f g h =
+parted {bs} a b e f g h =
     let o = next_at bs 0 in
-    let u : s ≡ drop (next_at bs o) bs = f ∙ ap (λ l. drop (next_at l 0) l) b ∙ later_rest bs o in
-    record {
-      document = a;
-      view = e ∙ ap (λ l. packet_at l 0) b ∙ later_packet bs o;
-      query = g ∙ ap (λ l. packet_at l 0) u ∙ later_packet bs (next_at bs o);
-      rest = h ∙ ap (λ l. drop (next_at l 0) l) u ∙ later_rest bs (next_at bs o);
-    }
+    let p = next_at bs o in
+    let u = rest_after bs o b f in
+    record { document = a; view = packet_after bs o b e; query = packet_after bs p u g; rest = rest_after bs p u h }
 
 -- bytes stand past the query exactly where something follows it
 pub rest_length : {bs d v q t : List ℕ} → Parted bs d v q t → length t ≡ length bs - parts_end bs

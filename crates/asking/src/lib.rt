@@ -96,18 +96,18 @@ fn put_reply(input: &[u8], text: &mut Text<'_>)
     ensures { Puts (Replies input.now) text.old text.new }
 {
     let (document, rest) = split_packet(input);
-    let (view, rest) = split_packet(rest);
-    let (query, rest) = split_packet(rest);
     let mut parents = [0; NODES];
     let mut labels = [0; NODES];
     let n = match packets::read_document(document, &mut parents, &mut labels) {
         Ok(n) => n,
         Err(r) => return text.refused(r, b"document"),
     };
+    let (view, rest) = split_packet(rest);
     let v = match packets::read_pattern(view) {
         Ok(p) => p,
         Err(r) => return text.refused(r, b"view"),
     };
+    let (query, rest) = split_packet(rest);
     let q = match packets::read_pattern(query) {
         Ok(p) => p,
         Err(r) => return text.refused(r, b"query"),

@@ -8,7 +8,7 @@ use Rattle.asking.proofs.put_third.Goals as goal
 pub line-requires : goal.line-requires
 line-requires c =
     let v = handed_right _ _ _ (rw c.in-Ok-Some.field-0-is at c.in-Ok-Some.ensures) in
-    omega (arith, lists_short ∣ v ∣₁ rewriting_word c.find_started-started.result.now c.args.d.right c.find_started-started.ensures)
+    omega (arith, lists_short ∣ v.0 ∣₁ rewriting_word c.find_started-started.result.now c.args.d.right c.find_started-started.ensures)
 
 pub returns-in-Ok-Some : goal.returns-in-Ok-Some
 returns-in-Ok-Some c = third_handed c.in-Ok-Some.e (rw c.in-Ok-Some.field-0-is at c.in-Ok-Some.ensures) c.find_started-started.ensures c.line.ensures
