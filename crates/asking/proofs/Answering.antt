@@ -1,6 +1,6 @@
 -- Laws of the reply's parts: answers are node numbers, their lines fit, and what the three lines put. Assumes nothing.
-use Rattle.tables.proofs.Kit.{ℕ, ◌+◌, ◌≤◌, ◌<◌, ◌≡◌, refl, subst, ⊎_elim, List, ◌++◌, Ok, Err, Some, None}
-use Rattle.tables.proofs.Kit.{arith, length, get_or}
+use Rattle.tables.proofs.Kit.{ℕ, ◌+◌, ◌≤◌, ◌<◌, ◌≡◌, refl, ap, subst, ⊎_elim, List, ◌++◌, Ok, Err, Some, None}
+use Rattle.tables.proofs.Kit.{arith, length, get_or, drop, length-append}
 use Rattle.tables.specs.{Document.{Document, node_count, ValidDocument}, Pattern.{Shape, shape_of, ValidShape, ValidPattern}, Refusal.{number, Refuses}}
 use Rattle.tables.specs.{declared.Pattern.Pattern, declared.Refusal.Refusal}
 use Rattle.tables.specs.declared.Refusal.TheVariants.{TooLarge}
@@ -8,7 +8,8 @@ use Rattle.tables.proofs.{Kept.{kept_pattern, kept_document}, Refusals.number_un
 use Rattle.placing.specs.Answer.{Answer, Started, In, Lists, StartList}
 use Rattle.placing.proofs.Listing.{answers_few}
 use Rattle.rewriting.specs.Rewriting.{rewriting_checks, Rewrites}
-use Rattle.asking.specs.{Text.{line, refused_line, none_line, view_word, query_word, rewriting_word}, Replies.{ThirdLine, handed, none, refused, Answered}}
+use Rattle.asking.specs.Text.{line, refused_line, none_line, view_word, query_word, rewriting_word}
+use Rattle.asking.specs.Replies.{ThirdLine, handed, none, refused, Answered, ReplyOf}
 use Rattle.asking.specs.{inner.Writing.{Grew, Puts}, declared.text.Text.Text}
 use Rattle.asking.proofs.Writing.{grew_then, line_short}
 
@@ -57,6 +58,10 @@ module _ {d : Document} {Q U : Pattern} {starts : List ℕ} {x y : Text} where
         holds = refused (subst (λ k. Rewrites Q U (Err k)) e h) refl;
         grew = subst (λ k. Grew x (refused_line (number k) rewriting_word) y) e g;
       }
+
+-- what is counted lies within the buffer
+pub reply_fits : (bs before : List ℕ) (c : ℕ) (after : List ℕ) → ReplyOf bs before (Ok c) after → c ≤ length after
+reply_fits bs before c after h = omega (arith, h.1.count, ap length h.1.written, length-append h.1.text (drop c before))
 
 -- the three lines, one after another
 pub answers_put : {d : Document} {Q U : Pattern} {xs ys : List ℕ} {x y z t : Text} → x.len ≤ length x.out.now → Lists (Answer (shape_of U) d) xs

@@ -1,10 +1,16 @@
--- A refusal changes no list or buffer that was lent, and hands nothing over: one theorem for each call that is lent something, and one for all. Assumes
--- nothing.
+-- A refusal changes no list or buffer that was lent, and hands nothing over: one theorem for each call that is lent something, one for all, and one for each
+-- call that hands a pattern over. Assumes nothing.
 use Rattle.tables.proofs.Kit.{ℕ, ◌≡◌, List, arith, Result, Ok, Err, Option, Some, None}
 use Rattle.tables.specs.{Document.Document, declared.Pattern.Pattern, declared.Refusal.Refusal}
-use Rattle.packets.specs.{PatternPacket.WritesPattern, DocumentPacket.{ReadsNodes, ReadsDocument, WritesDocument}}
+use Rattle.packets.specs.{PatternPacket.{ReadsPattern, WritesPattern}, DocumentPacket.{ReadsNodes, ReadsDocument, WritesDocument}}
+use Rattle.packets.proofs.PatternTrip.{reads_pattern_unique}
 use Rattle.answers.specs.Answers.{FindsAnswers, FindsStarted}
-use Rattle.containment.specs.Containment.{DecidesContainment}
+use Rattle.containment.specs.{Containment.DecidesContainment, declared.ContainmentAnswer.ContainmentAnswer}
+use Rattle.containment.proofs.Unique.{containment_unique}
+use Rattle.joining.specs.Join.{Joins}
+use Rattle.joining.proofs.Unique.{joins_unique}
+use Rattle.rewriting.specs.Rewriting.{Rewrites}
+use Rattle.rewriting.proofs.Unique.{rewrites_unique}
 use Rattle.asking.specs.Replies.{ReplyOf}
 
 -- writing a pattern packet: the buffer is as it was
@@ -51,3 +57,25 @@ refused_alone q a e = let z : ◌≡◌ {A = ℕ} 0 1 = cc in omega arith
 -- nor does "none"
 pub none_alone : {A : Type 0} (a : A) → ◌≡◌ {A = Option A} None (Some a) → ⊥
 none_alone a e = let z : ◌≡◌ {A = ℕ} 0 1 = cc in omega arith
+
+-- so no pattern fits a packet that is refused
+pub reads_pattern_alone : (bs : List ℕ) (q : Refusal) (p : Pattern) → ReadsPattern bs (Err q) → ReadsPattern bs (Ok p) → ⊥
+reads_pattern_alone bs q p h k = refused_alone q p (reads_pattern_unique bs (Err q) (Ok p) h k)
+
+-- nor a view and a compensation that are refused
+pub joins_alone : (U E : Pattern) (q : Refusal) (p : Pattern) → Joins U E (Err q) → Joins U E (Ok p) → ⊥
+joins_alone U E q p h k = refused_alone q p (joins_unique U E (Err q) (Ok p) h k)
+
+-- nor does an answer, "none" or a compensation, fit a query and a view that are refused
+pub rewrites_alone : (Q U : Pattern) (q : Refusal) (o : Option Pattern) → Rewrites Q U (Err q) → Rewrites Q U (Ok o) → ⊥
+rewrites_alone Q U q o h k = refused_alone q o (rewrites_unique Q U (Err q) (Ok o) h k)
+
+-- nor do a verdict and a mapping fit two patterns that are refused
+pub contains_alone : (A B : Pattern) (parents₀ labels₀ parents labels parents' labels' : List ℕ) (q : Refusal) (a : ContainmentAnswer)
+    → DecidesContainment A B parents₀ labels₀ (Err q) parents labels → DecidesContainment A B parents₀ labels₀ (Ok a) parents' labels' → ⊥
+contains_alone A B parents₀ labels₀ parents labels parents' labels' q a h k =
+    refused_alone q a (containment_unique A B parents₀ labels₀ (Err q) (Ok a) parents labels parents' labels' h k).0
+
+-- no compensation fits where the answer is "none"
+pub none_rewrites_alone : (Q U p : Pattern) → Rewrites Q U (Ok None) → Rewrites Q U (Ok (Some p)) → ⊥
+none_rewrites_alone Q U p h k = h.1 p k.1.0 k.1.1
