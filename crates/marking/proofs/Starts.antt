@@ -1,12 +1,11 @@
 -- What tells that a start list is right, and what the loop over it keeps: its nodes are marked. Assumes nothing.
 use Rattle.std.specs.List.{IsAllAdjacentAnswer}
-use borrow.Author.Tests.{clash}
 use Rattle.tables.proofs.Kit.{ℕ, zero, suc, ◌+◌, ◌*◌, ◌<◌, ◌≡◌, ◌↔◌, refl, sym, ap, ◌∙◌, Bool, true, false, T, ◌&&◌, List, length, get_or}
-use Rattle.tables.proofs.Kit.{ltb, ltb-true, lt-ltb, arith, add-one}
+use Rattle.tables.proofs.Kit.{ltb, ltb-true, lt-ltb, clash, arith, add-one}
 use Rattle.placing.specs.Answer.{In, Ascending}
 use Rattle.marking.specs.Entries.{Marked}
 
--- two tests at once
+-- two tests at once, x below y and y below n: where they pass
 two_below : (x y n : ℕ) → ltb x y && ltb y n ≡ true → (x < y) × (y < n)
 two_below x y n e = go (ltb x y) refl
   where
@@ -14,6 +13,7 @@ two_below x y n e = go (ltb x y) refl
     go true g = (ltb-true x y g, ltb-true y n (sym (ap (λ c. c && ltb y n) g) ∙ e))
     go false g = absurd (clash (sym (ap (λ c. c && ltb y n) g) ∙ e))
 
+-- and where they fail
 not_below : (x y n : ℕ) → ltb x y && ltb y n ≡ false → x < y → y < n → ⊥
 not_below x y n e l m = clash (sym e ∙ (ap (λ c. c && ltb y n) (lt-ltb x y l) ∙ lt-ltb y n m))
 

@@ -1,8 +1,8 @@
 -- What fits the contract of a call on one pattern fits it for every table with the same steps. Assumes nothing.
-use Rattle.tables.proofs.Kit.{ℕ, ◌≡◌, sym, ap, ◌∙◌, ◌↔◌, List, ◌++◌, arith, length, drop, Result, Ok, Err}
+use Rattle.tables.proofs.Kit.{ℕ, ◌≡◌, sym, ap, ◌∙◌, ◌↔◌, List, ◌++◌, arith, length, drop, Result}
 use Rattle.tables.specs.{Checks.{pattern_right, ChecksPattern}, Document.Document, Pattern.{shape_of, ValidPattern}}
 use Rattle.tables.specs.{Refusal.Decided, declared.Pattern.Pattern, declared.Refusal.Refusal, declared.right.RightPattern.RightPattern}
-use Rattle.tables.proofs.{Rules.agree_sym, Agreement.valid_agree, Refusals.handed}
+use Rattle.tables.proofs.{Rules.agree_sym, Agreement.valid_agree, Refusals.{recast, decided_recast}}
 use Rattle.placing.specs.Answer.{Begins, In}
 use Rattle.packets.specs.PatternPacket.{length_of, write_checks, PacketPut, WritesPattern}
 use Rattle.packets.proofs.PatternTrip.{pattern_packet_agree}
@@ -21,10 +21,8 @@ module _ {p q : Pattern} (e : SameSteps p q) where
       (alike (valid_alike e) (λ v. tt)) (λ v a x. x) (λ x. x)
 
   -- and with that other table handed back it fits in full
-  pub check_lent_fit : (a : RightPattern) → a.table.now ≡ q → (r : Result RightPattern Refusal) → ChecksPattern p r → ChecksPattern q (handed (λ b. a) r)
-  unfolding handed
-  check_lent_fit a l (Ok b) h = ((check_fit (Ok b) h).0, l)
-  check_lent_fit a l (Err x) h = check_fit (Err x) h
+  pub check_lent_fit : (a : RightPattern) → a.table.now ≡ q → (r : Result RightPattern Refusal) → ChecksPattern p r → ChecksPattern q (recast (λ b. a) r)
+  check_lent_fit a l r h = decided_recast (λ b. a) (pattern_right q) r _ _ (Unit {0}) (λ b x. l) (check_fit r h)
 
   -- writing its packet
   pub write_fit : (before : List ℕ) (r : Result ℕ Refusal) (a : List ℕ) → WritesPattern p before r a → WritesPattern q before r a

@@ -1,5 +1,5 @@
 -- A refusal changes no list or buffer that was lent, and hands nothing over: one theorem for each call that is lent something, one for all, and one for each
--- call that hands a pattern over. Assumes nothing.
+-- call that hands a pattern or a verdict over. Assumes nothing.
 use Rattle.tables.proofs.Kit.{ℕ, ◌≡◌, List, arith, Result, Ok, Err, Option, Some, None}
 use Rattle.tables.specs.{Document.Document, declared.Pattern.Pattern, declared.Refusal.Refusal}
 use Rattle.packets.specs.{PatternPacket.{ReadsPattern, WritesPattern}, DocumentPacket.{ReadsNodes, ReadsDocument, WritesDocument}}

@@ -1,6 +1,6 @@
 -- Entries past the step count are not read: two tables with the same steps get the same result from every call that takes a pattern, since what fits the
 -- call's contract for the one fits it for the other, and one result fits. Assumes nothing.
-use Rattle.tables.proofs.Kit.{ℕ, ◌≡◌, sym, ap, Bool, List, Result, Ok, Err, Option}
+use Rattle.tables.proofs.Kit.{ℕ, ◌≡◌, refl, Bool, List, Result, Option}
 use Rattle.tables.specs.{
   Checks.{pattern_right, ChecksPattern},
   Document.Document,
@@ -8,7 +8,7 @@ use Rattle.tables.specs.{
   declared.Refusal.Refusal,
   declared.right.RightPattern.RightPattern,
 }
-use Rattle.tables.proofs.Refusals.{verdict, verdict_unique, handed, refuses_not_passes, refuses_unique}
+use Rattle.tables.proofs.Refusals.{verdict, verdict_unique, recast, recast_unique}
 use Rattle.packets.specs.PatternPacket.{WritesPattern}
 use Rattle.packets.proofs.PatternTrip.{writes_pattern_unique}
 use Rattle.answers.specs.Answers.{FindsAnswers, FindsStarted}
@@ -30,12 +30,8 @@ module _ {p q : Pattern} (e : SameSteps p q) where
 
   -- so the answer for the one is the answer for the other, with that other table handed back
   pub check_lent_unread : (r s : Result RightPattern Refusal) → ChecksPattern p r → ChecksPattern q s
-      → handed (λ (a : RightPattern). q) r ≡ handed (λ (a : RightPattern). a.table.now) s
-  unfolding handed
-  check_lent_unread (Ok a) (Ok b) h k = ap Ok (sym k.1)
-  check_lent_unread (Ok a) (Err y) h k = absurd (refuses_not_passes (pattern_right q) y k.0 (check_fit e (Ok a) h).0)
-  check_lent_unread (Err x) (Ok b) h k = absurd (refuses_not_passes (pattern_right q) x (check_fit e (Err x) h).0 k.0)
-  check_lent_unread (Err x) (Err y) h k = ap Err (refuses_unique (pattern_right q) x y (check_fit e (Err x) h).0 k.0)
+      → recast (λ (a : RightPattern). q) r ≡ recast (λ (a : RightPattern). a.table.now) s
+  check_lent_unread r s h k = recast_unique _ _ q (pattern_right q) r s _ _ _ _ (λ a x. refl) (λ a x. x) (check_fit e r h) k
 
   -- writing its packet
   pub write_unread : (before : List ℕ) (r s : Result ℕ Refusal) (a b : List ℕ) → WritesPattern p before r a → WritesPattern q before s b → (r ≡ s) × (a ≡ b)

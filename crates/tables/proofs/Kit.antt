@@ -21,5 +21,5 @@ pub use lib.IntN.{ℤ, pos, negsuc, neg_ℤ, ◌-ℤ◌, +ℤ_idl, nat_abs, pos-
 pub use mir.Syntax.{w16, w8, w64}
 pub use mir.Val.{Fits, SFits, to_z, of_z, hbits}
 pub use borrow.Author.Rules.{rules}
-pub use borrow.Author.Tests.{ltb-true, ltb-false, eqb-true, eqb-false, leb-true, leb-false, lt-ltb, le-ltb, not-true, not-false}
+pub use borrow.Author.Tests.{ltb-true, ltb-false, eqb-true, eqb-false, leb-true, leb-false, lt-ltb, le-ltb, not-true, not-false, clash}
 pub use borrow.Author.Count.{below_more}

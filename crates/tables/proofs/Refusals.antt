@@ -52,19 +52,25 @@ unfoldable pub verdict : {A : Type 0} → Result A Refusal → Option Refusal
 verdict (Ok a) = None
 verdict (Err q) = Some q
 
--- an answer by what it hands over
-unfoldable pub handed : {A B : Type 0} → (A → B) → Result A Refusal → Result B Refusal
-handed f (Ok a) = Ok (f a)
-handed f (Err q) = Err q
+-- a result with f of what it hands over
+unfoldable pub recast : {A B : Type 0} → (A → B) → Result A Refusal → Result B Refusal
+recast f (Ok a) = Ok (f a)
+recast f (Err q) = Err q
 
--- no second answer fits, by what is handed over
-pub handed_unique : {A B : Type 0} (f : A → B) (b : B) (cs : List Check) (r s : Result A Refusal) (Y Y' : Type 0)
-    → Decided cs r (λ a. f a ≡ b) Y → Decided cs s (λ a. f a ≡ b) Y' → handed f r ≡ handed f s
-unfolding handed
-handed_unique f b cs (Ok a) (Ok c) Y Y' h k = ap Ok (h.1 ∙ sym k.1)
-handed_unique f b cs (Ok a) (Err q) Y Y' h k = absurd (refuses_not_passes cs q k.0 h.0)
-handed_unique f b cs (Err q) (Ok c) Y Y' h k = absurd (refuses_not_passes cs q h.0 k.0)
-handed_unique f b cs (Err q) (Err t) Y Y' h k = ap Err (refuses_unique cs q t h.0 k.0)
+-- is decided by the same checks
+pub decided_recast : {A B : Type 0} (f : A → B) (cs : List Check) (r : Result A Refusal) (X : A → Type 0) (X' : B → Type 0) (Y : Type 0)
+    → ((a : A) → X a → X' (f a)) → Decided cs r X Y → Decided cs (recast f r) X' Y
+unfolding recast
+decided_recast f cs (Ok a) X X' Y u h = (h.0, u a h.1)
+decided_recast f cs (Err q) X X' Y u h = h
+
+-- so two results are one by what they hand over, where that is c for both
+pub recast_unique : {A B C : Type 0} (f : A → C) (g : B → C) (c : C) (cs : List Check) (r : Result A Refusal) (s : Result B Refusal) (X : A → Type 0)
+    (X' : B → Type 0) (Y Y' : Type 0)
+    → ((a : A) → X a → f a ≡ c) → ((b : B) → X' b → g b ≡ c) → Decided cs r X Y → Decided cs s X' Y' → recast f r ≡ recast g s
+recast_unique f g c cs r s X X' Y Y' u v h k =
+    decided_unique cs (recast f r) (recast g s) (λ x. x ≡ c) Y (λ x. x ≡ c) Y' (λ x y d e. d ∙ sym e)
+    (decided_recast f cs r X (λ x. x ≡ c) Y u h) (decided_recast g cs s X' (λ x. x ≡ c) Y' v k)
 
 -- one verdict fits, whatever is handed over
 pub verdict_unique : {A B : Type 0} (cs : List Check) (a : Result A Refusal) (b : Result B Refusal) (X : A → Type 0) (Y : Type 0) (X' : B → Type 0)

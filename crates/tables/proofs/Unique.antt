@@ -8,12 +8,16 @@ use Rattle.tables.specs.{
   declared.right.RightDocument.RightDocument,
   declared.right.RightPattern.RightPattern,
 }
-use Rattle.tables.proofs.Refusals.{handed, handed_unique}
+use Rattle.tables.proofs.Refusals.{recast, recast_unique}
 
 pub checks_document_unique : (d : Document) (r s : Result RightDocument Refusal) → ChecksDocument d r → ChecksDocument d s
-    → handed (λ (a : RightDocument). of_lists a.lists) r ≡ handed (λ (a : RightDocument). of_lists a.lists) s
-checks_document_unique d r s h k = handed_unique (λ (a : RightDocument). of_lists a.lists) d (document_right d) r s (Unit {0}) (Unit {0}) h k
+    → recast (λ (a : RightDocument). of_lists a.lists) r ≡ recast (λ (a : RightDocument). of_lists a.lists) s
+checks_document_unique d r s h k =
+    let X : RightDocument → Type 0 = λ a. of_lists a.lists ≡ d in
+    recast_unique _ _ d (document_right d) r s X X (Unit {0}) (Unit {0}) (λ a x. x) (λ a x. x) h k
 
 pub checks_pattern_unique : (p : Pattern) (r s : Result RightPattern Refusal) → ChecksPattern p r → ChecksPattern p s
-    → handed (λ (a : RightPattern). a.table.now) r ≡ handed (λ (a : RightPattern). a.table.now) s
-checks_pattern_unique p r s h k = handed_unique (λ (a : RightPattern). a.table.now) p (pattern_right p) r s (Unit {0}) (Unit {0}) h k
+    → recast (λ (a : RightPattern). a.table.now) r ≡ recast (λ (a : RightPattern). a.table.now) s
+checks_pattern_unique p r s h k =
+    let X : RightPattern → Type 0 = λ a. a.table.now ≡ p in
+    recast_unique _ _ p (pattern_right p) r s X X (Unit {0}) (Unit {0}) (λ a x. x) (λ a x. x) h k
